@@ -1,0 +1,20 @@
+-- The laws of the numbers, apart from the proofs of functions: each file stands on those above it.
+pub mod Whole
+pub mod Finite
+pub mod Order
+pub mod Units
+pub mod Rounded
+pub mod Operations
+pub mod Ranged
+pub mod Rounding
+pub mod Nearest
+pub mod Choices
+pub mod Clock
+pub mod Blend
+pub mod Tilt
+pub mod WholeRoot
+pub mod Newton
+pub mod RootNearest
+pub mod RootPattern
+pub mod RootCases
+pub mod Examples

@@ -2,7 +2,7 @@
 -- No whole number lies strictly between the two, so the middle between the result and another binary32 number is on the same side of both. Assumes nothing.
 use mathlib.Core.Path.{_≡_, refl, sym, ap, _∙_, subst}
 use mathlib.Core.Logic.{inl, inr}
-use mathlib.Core.Bool.{Bool, true, false, cond}
+use mathlib.Core.Bool.{Bool, true, false}
 use Prim.Native.Nat.{ℕ, zero, suc, _+_, _-_, _*_, _/_, _^_, _≤_, _<_, zero-le}
 use native.Mathlib.Nat.{le-trans, le-of-eq, le-of-lt, lt-of-lt-of-le, lt-of-le-of-lt, lt-of-not-le, lt-irrefl, not-le-of-lt, eq-zero-or-pos, add-zero, sub-le}
 use native.Mathlib.Nat.{mul-assoc, mul-comm, mul-right-comm, mul-le-mul, mul-lt-mul-of-pos-right, le-of-mul-le-mul-right, mul-div-cancel}
@@ -13,7 +13,7 @@ use lib.Pow.{pow-pos}
 use lib.Ieee.{Float, nan, inf, fin, binary32, up, down, fits}
 use lib.Ieee.Fits.{down-pos}
 use Rattle.numbers.specs.Nearest.{units, square, NoNearer, NearestRoot}
-use Rattle.numbers.specs.Numbers.{finite}
+use Rattle.numbers.specs.Numbers.{if_then_else_, finite}
 use Rattle.numbers.specs.Ranges.{positive}
 use Rattle.numbers.specs.Root.{wholeRoot, rootRound, rootOf}
 use Rattle.numbers.proofs.Laws.Units.{Amount, units-exact, units-under, units-top, units-zero, finite-of-units}
@@ -25,7 +25,7 @@ use Rattle.numbers.proofs.Laws.Nearest.{rounded-nearest-above, rounded-
 -- ---- the number that is rounded
 -- 1 where the root w of n is not exact
 abbrev pub extra : ℕ → ℕ → ℕ
-extra w n = cond (eqb (w * w) n) 0 1
+extra w n = if eqb (w * w) n then 0 else 1
 
 -- twice the whole root of n, and one more where it is not exact
 abbrev pub sticky : ℕ → ℕ
@@ -39,7 +39,7 @@ pub data Extra (w n : ℕ) : ℕ → Type 0 where
 pub extra-cases : (w n : ℕ) → Extra w n (extra w n)
 extra-cases w n = go (eqb (w * w) n) (eqb→eq (w * w) n)
   where
-    go : (b : Bool) → (T b → w * w ≡ n) → Extra w n (cond b 0 1)
+    go : (b : Bool) → (T b → w * w ≡ n) → Extra w n (if b then 0 else 1)
     go true h = exact (h tt)
     go false h = cut
 

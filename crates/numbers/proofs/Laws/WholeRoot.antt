@@ -1,7 +1,7 @@
 -- The whole root of n, the largest whole number whose square is at most n: there is one only, and `wholeRoot n` is it. The root of n / 4, doubled, or one more, is the root of n,
 -- and so one digit to the base 4 after another. Assumes nothing.
 use mathlib.Core.Path.{_≡_, sym, ap, _∙_, subst}
-use mathlib.Core.Bool.{Bool, true, false, not, cond}
+use mathlib.Core.Bool.{Bool, true, false, not}
 use Prim.Native.Nat.{ℕ, zero, suc, _+_, _*_, _/_, _^_, _≤_, _<_, zero-le}
 use native.Mathlib.Nat.{le-trans, le-of-eq, lt-of-lt-of-le, lt-of-le-of-lt, lt-of-not-le, not-le-of-lt, mul-mul-mul-comm, mul-le-mul, div-lt-iff-lt-mul}
 use native.Mathlib.Omega.{arith}
@@ -9,6 +9,7 @@ use lib.Dec.{T, leb, leb→le, nleb→lt, lit<}
 use lib.Pow.{pow-mono, pow-add}
 use lib.Ieee.{size}
 use lib.Ieee.Digits.{size-lt}
+use Rattle.numbers.specs.Numbers.{if_then_else_}
 use Rattle.numbers.specs.Root.{wholeRootIn, wholeRoot}
 
 -- r is the whole root of n
@@ -40,10 +41,10 @@ quarter-below n a h = omega arith
 quarter-above : (n a : ℕ) → n / 4 < a → n < 4 * a
 quarter-above n a h = omega arith
 
-digit : (n r : ℕ) → IsRoot (n / 4) r → IsRoot n (cond (leb ((2 * r + 1) * (2 * r + 1)) n) (2 * r + 1) (2 * r))
+digit : (n r : ℕ) → IsRoot (n / 4) r → IsRoot n (if leb ((2 * r + 1) * (2 * r + 1)) n then 2 * r + 1 else 2 * r)
 digit n r p = go (leb ((2 * r + 1) * (2 * r + 1)) n) (leb→le ((2 * r + 1) * (2 * r + 1)) n) (nleb→lt ((2 * r + 1) * (2 * r + 1)) n)
   where
-    go : (b : Bool) → (T b → (2 * r + 1) * (2 * r + 1) ≤ n) → (T (not b) → n < (2 * r + 1) * (2 * r + 1)) → IsRoot n (cond b (2 * r + 1) (2 * r))
+    go : (b : Bool) → (T b → (2 * r + 1) * (2 * r + 1) ≤ n) → (T (not b) → n < (2 * r + 1) * (2 * r + 1)) → IsRoot n (if b then 2 * r + 1 else 2 * r)
     go true h k = record { below = h tt; above = subst (λ (x : ℕ). n < x) (sym (next-square r)) (quarter-above n ((r + 1) * (r + 1)) (p .above)) }
     go false h k = record { below = le-trans (le-of-eq (four-squares r)) (quarter-below n (r * r) (p .below)); above = k tt }
 

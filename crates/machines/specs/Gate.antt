@@ -47,3 +47,8 @@ floorTrips gate z planeMinHeight = lt zero32 planeMinHeight && lt (heightOf gate
 abbrev pub readingOf : Airspeed → AirspeedReading
 readingOf Absent = reading.None
 readingOf (Present speed) = if le zero32 speed then reading.Valid speed else reading.None
+
+-- a reading against section 4's minimum: a valid speed is ≥ the minimum; what none counts as is the airframe's
+abbrev pub atLeast : AirspeedReading → Float → Bool → Bool
+atLeast (reading.Valid speed) minimum absent = le minimum speed
+atLeast reading.None minimum absent = absent

@@ -20,7 +20,7 @@ use numbers::vector::Quaternion;
 use numbers::vector::Vec2;
 use numbers::vector::Vec3;
 ghost use mathlib.Core.Path.{_≡_};
-ghost use Rattle.machines.specs.Gate.{readingOf};
+ghost use Rattle.machines.specs.Gate.{readingOf, atLeast};
 ghost use Rattle.machines.specs.Refusals.{reasonOf, reportOf, refusalOf, fieldOf};
 
 // What is requested.
@@ -97,6 +97,18 @@ impl VehicleState {
             AirspeedReading::Valid(airspeed_mps)
         } else {
             AirspeedReading::None
+        }
+    }
+}
+
+impl AirspeedReading {
+    // A valid airspeed is at least the minimum; without one the answer is `absent`.
+    pub(crate) fn at_least(self, min_airspeed_mps: f32, absent: bool) -> bool
+        ensures { λ r. ⌜ r ≡ atLeast self «min_airspeed_mps» absent ⌝ }
+    {
+        match self {
+            AirspeedReading::None => absent,
+            AirspeedReading::Valid(airspeed_mps) => airspeed_mps >= min_airspeed_mps,
         }
     }
 }

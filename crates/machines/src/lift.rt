@@ -18,7 +18,7 @@ use numbers::math::min;
 use numbers::ranges::is_finite;
 use numbers::ranges::is_positive;
 ghost use mathlib.Core.Path.{_≡_};
-ghost use Rattle.machines.specs.Lift.{forwardShare, backShare, shareOf, answered, refusedBy, atLeast, rampDone, rampTimedOut, knownSpeed, slowed, movedOf, rampIn, rampOf, updateOf, primeOf, cutShortOf, newOf, setConfigOf};
+ghost use Rattle.machines.specs.Lift.{forwardShare, backShare, shareOf, answered, refusedBy, rampDone, rampTimedOut, knownSpeed, slowed, movedOf, rampIn, rampOf, updateOf, primeOf, cutShortOf, newOf, setConfigOf};
 
 // When the forward lift ramp began, on the transition's clock.
 pub enum RampStart {
@@ -41,18 +41,6 @@ pub struct LiftTransitionUpdate {
 pub enum NewLiftTransition {
     Refused(InputRefusal),
     Machine(LiftTransition),
-}
-
-impl AirspeedReading {
-    // A valid airspeed of at least the minimum.
-    fn at_least(self, min_airspeed_mps: f32) -> bool
-        ensures { λ r. ⌜ r ≡ atLeast self «min_airspeed_mps» ⌝ }
-    {
-        let AirspeedReading::Valid(airspeed_mps) = self else {
-            return false;
-        };
-        airspeed_mps >= min_airspeed_mps
-    }
 }
 
 // The known speed, if any: the forward speed, which may be below 0, or where it is not finite the valid airspeed.
@@ -297,7 +285,7 @@ impl LiftTransition {
         let mode = after.mode;
         let ramp = self.ramp_start_s;
         let airspeed = state.valid_airspeed_mps();
-        let fast = airspeed.at_least(self.config.min_airspeed_mps);
+        let fast = airspeed.at_least(self.config.min_airspeed_mps, false);
         ramp.after(mode, fast, after.elapsed_s)
     }
 }

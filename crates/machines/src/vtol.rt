@@ -21,7 +21,7 @@ use numbers::ranges::is_finite;
 use numbers::ranges::is_half_turn_from_zero;
 use numbers::ranges::is_positive;
 ghost use mathlib.Core.Path.{_≡_};
-ghost use Rattle.machines.specs.Transition.{tiltOf, unknownTilt, startTilt, answered, refusedBy, noneOrAtLeast, forwardDone, movedOf, settledOf, badEntryTilt, updateOf, primeOf, cutShortOf, newOf, setConfigOf};
+ghost use Rattle.machines.specs.Transition.{tiltOf, unknownTilt, startTilt, answered, refusedBy, forwardDone, movedOf, settledOf, badEntryTilt, updateOf, primeOf, cutShortOf, newOf, setConfigOf};
 
 pub struct Transition {
     pub config: TransitionConfig,
@@ -39,18 +39,6 @@ pub struct TransitionUpdate {
 pub enum NewTransition {
     Refused(InputRefusal),
     Machine(Transition),
-}
-
-impl AirspeedReading {
-    // No valid airspeed, or one of at least the minimum.
-    fn none_or_at_least(self, min_airspeed_mps: f32) -> bool
-        ensures { λ r. ⌜ r ≡ noneOrAtLeast self «min_airspeed_mps» ⌝ }
-    {
-        let AirspeedReading::Valid(airspeed_mps) = self else {
-            return true;
-        };
-        airspeed_mps >= min_airspeed_mps
-    }
 }
 
 // An entry tilt that is NaN or outside 0..π while nose-up is finite.
@@ -202,7 +190,7 @@ impl Transition {
     fn forward_done(self, nose_up: f32, airspeed: AirspeedReading) -> bool
         ensures { λ r. ⌜ r ≡ forwardDone (self .config) «nose_up» airspeed ⌝ }
     {
-        let fast_enough = airspeed.none_or_at_least(self.config.min_airspeed_mps);
+        let fast_enough = airspeed.at_least(self.config.min_airspeed_mps, true);
         both(nose_up <= self.config.forward_done_cosine, fast_enough)
     }
 

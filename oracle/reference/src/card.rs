@@ -1,0 +1,205 @@
+//! The flight card and its transcript: document 01, sections 7 and 9.
+
+use crate::joined::{Call, Joined, Line};
+use crate::machine::{Airframe, Refusal, Step, bad_field};
+use crate::settings::Settings;
+use stable_flight::FlightMode;
+use std::fmt::Write;
+
+pub const RECORD_BYTES: usize = 80;
+pub const MOST_RECORDS: usize = 800;
+
+/// A record of a card or of a list of calls.
+#[derive(Debug, Clone, Copy)]
+pub struct Record<'a>(pub &'a [u8]);
+
+impl Record<'_> {
+    pub fn kind(&self) -> u8 {
+        self.0[0]
+    }
+
+    pub fn option(&self) -> u8 {
+        self.0[1]
+    }
+
+    pub fn next(&self) -> usize {
+        usize::from(u16::from_le_bytes([self.0[2], self.0[3]]))
+    }
+
+    /// Number i, from 1.
+    pub fn number(&self, i: usize) -> f32 {
+        f32::from_le_bytes(self.0[4 * i..4 * i + 4].try_into().unwrap())
+    }
+
+    pub fn settings(&self) -> Settings {
+        std::array::from_fn(|i| self.number(i + 1))
+    }
+
+    pub fn step(&self) -> Step {
+        Step {
+            plane_requested: self.option() % 2 == 1,
+            airspeed_present: self.option() >= 2,
+            numbers: std::array::from_fn(|i| self.number(i + 1)),
+        }
+    }
+
+    /// Whether kind and option are good in a record after the header.
+    pub fn known(&self) -> bool {
+        match self.kind() {
+            1 | 4 => self.option() == 0,
+            2 => self.option() <= 3,
+            3 => (11..=16).contains(&self.option()),
+            _ => false,
+        }
+    }
+
+    fn call(&self) -> Call {
+        match self.kind() {
+            1 => Call::Prime(self.number(2)),
+            2 => Call::Step(self.step()),
+            3 => Call::Cut(self.option()),
+            _ => Call::Settings(self.settings()),
+        }
+    }
+}
+
+/// What the check of a card finds: the airframe, and the records after the header in the order of the chain.
+pub struct Checked {
+    pub airframe: Airframe,
+    pub chain: Vec<usize>,
+}
+
+pub fn record(card: &[u8], index: usize) -> Record<'_> {
+    Record(&card[RECORD_BYTES * index..RECORD_BYTES * (index + 1)])
+}
+
+/// The check of a whole card, before any record runs.
+pub fn check(card: &[u8], marks: usize) -> Result<Checked, Refusal> {
+    let whole = card.len().is_multiple_of(RECORD_BYTES);
+    if !whole || card.is_empty() || card.len() > RECORD_BYTES * MOST_RECORDS {
+        return Err(Refusal::Number(6));
+    }
+    let records = card.len() / RECORD_BYTES;
+    if marks < records {
+        return Err(Refusal::Number(7));
+    }
+    let header = record(card, 0);
+    let airframe = match (header.kind(), header.option()) {
+        (5, 0) => Airframe::Tailsitter,
+        (6, 0) => Airframe::Quadplane,
+        _ => return Err(Refusal::Number(10)),
+    };
+    match bad_field(airframe, &header.settings()) {
+        0 => {}
+        field => return Err(Refusal::Setting(field)),
+    }
+    let chain = chain(card, records)?;
+    Ok(Checked { airframe, chain })
+}
+
+/// The records after the header, in the order of the chain.
+fn chain(card: &[u8], records: usize) -> Result<Vec<usize>, Refusal> {
+    let mut passed = vec![false; records];
+    passed[0] = true;
+    let mut chain = Vec::new();
+    let mut next = record(card, 0).next();
+    while next != 0 {
+        if next >= records {
+            return Err(Refusal::Number(8));
+        }
+        if passed[next] {
+            return Err(Refusal::Number(9));
+        }
+        if !record(card, next).known() {
+            return Err(Refusal::Number(10));
+        }
+        passed[next] = true;
+        chain.push(next);
+        next = record(card, next).next();
+    }
+    Ok(chain)
+}
+
+/// The calls of a good card, each with its record's index.
+pub fn calls(card: &[u8], chain: &[usize]) -> Vec<(usize, Call)> {
+    chain.iter().map(|&index| (index, record(card, index).call())).collect()
+}
+
+/// The joined machine of a good card's header.
+pub fn machine(card: &[u8], airframe: Airframe) -> Joined {
+    Joined::new(airframe, &record(card, 0).settings()).expect("a header that was found good")
+}
+
+/// What the runner writes for a card.
+pub fn transcript(card: &[u8]) -> String {
+    let checked = match check(card, MOST_RECORDS) {
+        Ok(checked) => checked,
+        Err(refusal) => return format!("card {}\n", refusal_words(refusal)),
+    };
+    let mut joined = machine(card, checked.airframe);
+    let mut text = String::new();
+    for (index, call) in calls(card, &checked.chain) {
+        let words = match joined.call(&call) {
+            Ok(line) => line_words(&line),
+            Err(refusal) => format!("refused {}", refusal_words(refusal)),
+        };
+        writeln!(text, "{index} {words}").unwrap();
+    }
+    writeln!(text, "end {}", checked.chain.len()).unwrap();
+    text
+}
+
+/// A list of cards: each is its length, a little-endian u32, and its bytes.
+pub fn list(cards: impl Iterator<Item = Vec<u8>>) -> Vec<u8> {
+    cards
+        .flat_map(|card| [&(card.len() as u32).to_le_bytes()[..], &card].concat())
+        .collect()
+}
+
+/// The cards of a list.
+pub fn cards(list: &[u8]) -> Vec<&[u8]> {
+    let mut cards = Vec::new();
+    let mut rest = list;
+    while let Some((length, after)) = rest.split_first_chunk::<4>() {
+        let (card, left) = after.split_at(u32::from_le_bytes(*length) as usize);
+        cards.push(card);
+        rest = left;
+    }
+    cards
+}
+
+/// The number of a refusal, and after 3 the field.
+pub fn refusal_words(refusal: Refusal) -> String {
+    match refusal {
+        Refusal::Number(number) => number.to_string(),
+        Refusal::Setting(field) => format!("3 {field}"),
+    }
+}
+
+pub fn mode_letter(mode: FlightMode) -> char {
+    match mode {
+        FlightMode::Copter => 'C',
+        FlightMode::Plane => 'P',
+        FlightMode::ToPlane => 'F',
+        FlightMode::ToCopter => 'B',
+        _ => panic!("a mode that document 01 does not have"),
+    }
+}
+
+/// The bits of a number, a NaN's as 7FC00000.
+pub fn bits(x: f32) -> u32 {
+    if x.is_nan() { 0x7FC0_0000 } else { x.to_bits() }
+}
+
+fn line_words(line: &Line) -> String {
+    let moved = &line.moved;
+    format!(
+        "{} {} {} {} {:08X} {:08X}",
+        mode_letter(moved.mode),
+        moved.output.map_or("-".to_string(), |x| format!("{:08X}", bits(x))),
+        u8::from(moved.handoff),
+        moved.report,
+        bits(line.thrust),
+        bits(line.pitch_rad),
+    )
+}

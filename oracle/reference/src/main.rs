@@ -1,0 +1,62 @@
+//! The commands of the reference; the scripts beside the workspace call them.
+
+use reference::{call_list, calls, card, compare, coverage, flights, named};
+use std::io::{self, Read, Write};
+use std::process::ExitCode;
+
+const USAGE: &str = "usage: reference COMMAND
+  transcript          the transcript of the card on standard input
+  transcripts         those of a list of cards on standard input
+  named-cards         the list of the cards with a name
+  make-cards SEED N   a list of N cards of a seed
+  coverage            what a list of cards on standard input reaches
+  calls               the answers to a list of calls on standard input
+  make-calls SEED     a list of calls
+  count-calls         how many calls of each kind a list on standard input has
+  compare N SEED RUNNER..   N cards through the runner, each held against the transcript
+";
+
+fn main() -> ExitCode {
+    let arguments: Vec<String> = std::env::args().skip(1).collect();
+    let words: Vec<&str> = arguments.iter().map(String::as_str).collect();
+    match words[..] {
+        ["transcript"] => write(card::transcript(&read()).as_bytes()),
+        ["transcripts"] => write(transcripts(&read()).as_bytes()),
+        ["named-cards"] => write(&card::list(named::all().into_iter().map(|named| named.card))),
+        ["make-cards", seed, count] => write(&card::list(flights::first(number(seed), number(count)))),
+        ["coverage"] => write(coverage::report(&read()).as_bytes()),
+        ["calls"] => write(calls::answers(&read()).as_bytes()),
+        ["make-calls", seed] => write(&call_list::make(number(seed))),
+        ["count-calls"] => write(call_list::counts(&read()).as_bytes()),
+        ["compare", count, seed, ref runner @ ..] if !runner.is_empty() => compare::live(number(count), number(seed), runner),
+        _ => {
+            eprint!("{USAGE}");
+            ExitCode::from(2)
+        }
+    }
+}
+
+fn read() -> Vec<u8> {
+    let mut bytes = Vec::new();
+    io::stdin().read_to_end(&mut bytes).expect("standard input that can be read");
+    bytes
+}
+
+fn write(bytes: &[u8]) -> ExitCode {
+    match io::stdout().write_all(bytes) {
+        Ok(()) => ExitCode::SUCCESS,
+        Err(_) => ExitCode::FAILURE,
+    }
+}
+
+fn number(word: &str) -> u64 {
+    word.parse().unwrap_or_else(|_| {
+        eprintln!("'{word}' is not a whole number");
+        std::process::exit(2)
+    })
+}
+
+/// The transcripts of a list of cards, one after the other.
+fn transcripts(list: &[u8]) -> String {
+    card::cards(list).iter().map(|bytes| card::transcript(bytes)).collect()
+}

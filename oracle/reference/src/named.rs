@@ -1,0 +1,328 @@
+//! Cards with a name: the example of document 01, section 7, and the inputs of docs/DIFFERENCES.md. Each comes with what the paper or
+//! that page says of it, and the tests hold the reference to that.
+
+use crate::machine::Airframe;
+use crate::settings::{Settings, quadplane_defaults, tailsitter_defaults};
+use std::f32::consts::{FRAC_PI_2, PI};
+
+/// A card, and lines of its transcript: each a number from 1 and the words.
+pub struct Named {
+    pub name: &'static str,
+    pub card: Vec<u8>,
+    pub lines: Vec<(usize, &'static str)>,
+}
+
+/// A card whose records run in their order.
+struct Flight {
+    records: Vec<[u8; 80]>,
+}
+
+fn record(kind: u8, option: u8, numbers: &[f32]) -> [u8; 80] {
+    let mut bytes = [0; 80];
+    bytes[0] = kind;
+    bytes[1] = option;
+    for (i, x) in numbers.iter().enumerate() {
+        bytes[4 * i + 4..4 * i + 8].copy_from_slice(&x.to_le_bytes());
+    }
+    bytes
+}
+
+/// What differs from step to step in these flights. The rest: z 10, velocity and acceleration 0, the nose where the airframe hovers.
+#[derive(Clone, Copy)]
+struct Tick {
+    plane: bool,
+    dt: f32,
+    demand: f32,
+    airspeed: Option<f32>,
+    vx: f32,
+    attitude: [f32; 4],
+    tilt_rad: f32,
+    bank_rad: f32,
+}
+
+const LEVEL: [f32; 4] = [1.0, 0.0, 0.0, 0.0];
+/// Nose straight up: 2·w·y is 1.
+const NOSE_UP: [f32; 4] = [0.5, 0.0, 1.0, 0.0];
+
+fn copter(dt: f32, demand: f32) -> Tick {
+    Tick {
+        plane: false,
+        dt,
+        demand,
+        airspeed: None,
+        vx: 0.0,
+        attitude: LEVEL,
+        tilt_rad: FRAC_PI_2,
+        bank_rad: 0.0,
+    }
+}
+
+fn plane(dt: f32, demand: f32) -> Tick {
+    Tick {
+        plane: true,
+        ..copter(dt, demand)
+    }
+}
+
+/// A tick with the nose straight up.
+fn upright(tick: Tick) -> Tick {
+    Tick {
+        attitude: NOSE_UP,
+        tilt_rad: 0.0,
+        ..tick
+    }
+}
+
+impl Flight {
+    /// The airframe's header, and a prime at z 0.
+    fn new(airframe: Airframe, settings: &Settings) -> Flight {
+        let kind = match airframe {
+            Airframe::Tailsitter => 5,
+            Airframe::Quadplane => 6,
+        };
+        Flight {
+            records: vec![record(kind, 0, settings), record(1, 0, &[])],
+        }
+    }
+
+    fn fly(mut self, ticks: &[Tick]) -> Flight {
+        for tick in ticks {
+            let option = u8::from(tick.plane) + 2 * u8::from(tick.airspeed.is_some());
+            let [w, x, y, z] = tick.attitude;
+            let airspeed = tick.airspeed.unwrap_or(0.0);
+            let state = [10.0, tick.vx, 0.0, 0.0, 0.0, 0.0, w, x, y, z, airspeed];
+            let numbers = [&[tick.dt], &state[..], &[tick.tilt_rad, tick.bank_rad, tick.demand]].concat();
+            self.records.push(record(2, option, &numbers));
+        }
+        self
+    }
+
+    fn cut(mut self, reason: u8) -> Flight {
+        self.records.push(record(3, reason, &[]));
+        self
+    }
+
+    fn card(mut self) -> Vec<u8> {
+        let last = self.records.len() - 1;
+        for (i, record) in self.records[..last].iter_mut().enumerate() {
+            record[2..4].copy_from_slice(&(i as u16 + 1).to_le_bytes());
+        }
+        self.records.concat()
+    }
+}
+
+/// A quadplane with its defaults but for the handoff, that has flown into Plane by line 4 with the demand 0.5.
+fn quadplane_in_plane(handoff_s: f32) -> Flight {
+    let mut settings = quadplane_defaults();
+    settings[13] = handoff_s;
+    let fast = Tick {
+        airspeed: Some(12.0),
+        ..plane(1.0, 0.5)
+    };
+    Flight::new(Airframe::Quadplane, &settings).fly(&[plane(1.0, 0.5), fast, plane(5.0, 0.5)])
+}
+
+/// A tailsitter with its defaults but for handoff, forward and back thrust.
+fn tailsitter(handoff_s: f32, forward_thrust: f32, back_thrust: f32) -> Flight {
+    let mut settings = tailsitter_defaults();
+    settings[9] = forward_thrust;
+    settings[10] = back_thrust;
+    settings[13] = handoff_s;
+    Flight::new(Airframe::Tailsitter, &settings)
+}
+
+/// Document 01, section 7: the example.
+fn example() -> Named {
+    let settings = [
+        9.0, 4.0, 15.0, 5.0, 0.0, 2.0, 5.0, 10.0, 2.0, 0.0, 1.0, 0.25, 0.0625, 0.0, 0.75, 0.0, 0.0,
+    ];
+    let ticks = [
+        plane(1.0, 0.5),
+        Tick {
+            airspeed: Some(12.0),
+            ..plane(1.0, 0.5)
+        },
+        plane(2.0, 0.5),
+        plane(2.0, 0.5),
+        copter(1.0, 0.5),
+        Tick {
+            vx: 10.0,
+            ..copter(1.0, 0.5)
+        },
+        Tick {
+            vx: 4.0,
+            ..copter(1.0, 0.5)
+        },
+    ]
+    .map(|tick| Tick { tilt_rad: 0.0, ..tick });
+    Named {
+        name: "document 01, section 7",
+        card: Flight::new(Airframe::Quadplane, &settings).fly(&ticks).card(),
+        lines: vec![
+            (1, "1 C 3F800000 0 0 00000000 00000000"),
+            (2, "2 F 3F800000 0 0 3F000000 00000000"),
+            (3, "3 F 3F800000 0 0 3F000000 00000000"),
+            (4, "4 F 3F000000 0 0 3F000000 00000000"),
+            (5, "5 P 00000000 1 0 3F000000 00000000"),
+            (6, "6 B 00000000 0 0 3F000000 00000000"),
+            (7, "7 B 3F000000 0 0 3F000000 00000000"),
+            (8, "8 C 3F800000 1 0 3F000000 00000000"),
+            (9, "end 8"),
+        ],
+    }
+}
+
+fn quadplane_cards() -> Vec<Named> {
+    let still_fast = Tick {
+        vx: 20.0,
+        ..copter(1.0, 0.5)
+    };
+    vec![
+        Named {
+            name: "2.1, quadplane Plane: the demand is saturated",
+            card: quadplane_in_plane(0.0).fly(&[plane(1.0, 2.0)]).card(),
+            lines: vec![(5, "5 P 00000000 0 0 3F800000 00000000")],
+        },
+        Named {
+            name: "2.2, quadplane ToCopter to Plane: from the kept thrust",
+            card: quadplane_in_plane(2.0).fly(&[plane(2.0, 0.5), still_fast, plane(1.0, 0.5)]).card(),
+            lines: vec![(7, "7 P 00000000 0 0 3F000000 3E4CCCCD")],
+        },
+        Named {
+            name: "2.2, quadplane ToCopter to Copter: starts a blend",
+            card: quadplane_in_plane(2.0).fly(&[plane(2.0, 0.5), still_fast, copter(1.0, 0.0)]).card(),
+            lines: vec![(7, "7 C 3F800000 1 0 3E800000 3E4CCCCD")],
+        },
+        Named {
+            name: "2.3, quadplane: every step advances a blend",
+            card: {
+                let mut settings = quadplane_defaults();
+                settings[13] = 4.0;
+                let fast = Tick {
+                    airspeed: Some(12.0),
+                    ..plane(5.0, 0.5)
+                };
+                let ticks = [plane(1.0, 0.5), fast, plane(4.0, 0.5), plane(1.0, 1.0), copter(1.0, 1.0)];
+                Flight::new(Airframe::Quadplane, &settings).fly(&ticks).card()
+            },
+            lines: vec![(5, "5 P 00000000 1 0 3F200000 00000000"), (6, "6 B 00000000 0 0 3F400000 3E4CCCCD")],
+        },
+    ]
+}
+
+fn tailsitter_cards() -> Vec<Named> {
+    let (enter, complete) = (upright(plane(0.5, 0.5)), plane(0.5, 0.0));
+    vec![
+        Named {
+            name: "2.1, tailsitter ToPlane: field 10 alone",
+            card: tailsitter(0.5, 0.5, 0.5)
+                .fly(&[upright(copter(1.0, 0.75)), upright(plane(1.0, 0.75))])
+                .card(),
+            lines: vec![(2, "2 C - 0 0 3F400000 00000000"), (3, "3 F 00000000 0 0 3F000000 00000000")],
+        },
+        Named {
+            name: "2.1, tailsitter Plane: no floor under the throttle",
+            card: tailsitter(0.0, 0.5, 0.5).fly(&[enter, complete]).card(),
+            lines: vec![(3, "3 P - 1 0 00000000 00000000")],
+        },
+        Named {
+            name: "2.1, tailsitter ToCopter: no blend",
+            card: tailsitter(2.0, 0.5, 0.0).fly(&[enter, complete, copter(0.5, 0.0)]).card(),
+            lines: vec![(3, "3 P - 1 0 3EC00000 00000000"), (4, "4 B 3FC90FDB 0 0 00000000 00000000")],
+        },
+        Named {
+            name: "2.1, tailsitter Copter: a NaN demand is 0",
+            card: tailsitter(0.5, 0.5, 0.5).fly(&[upright(copter(1.0, f32::NAN))]).card(),
+            lines: vec![(2, "2 C - 0 0 00000000 00000000")],
+        },
+        Named {
+            name: "2.2, tailsitter ToCopter to Plane: starts a blend",
+            card: tailsitter(2.0, 0.5, 0.5)
+                .fly(&[enter, complete, plane(2.0, 0.0), copter(0.5, 0.0), plane(1.0, 0.0)])
+                .card(),
+            lines: vec![(6, "6 P - 0 0 3E800000 00000000")],
+        },
+        Named {
+            name: "2.3, tailsitter: the transitions let a blend stand",
+            card: tailsitter(2.0, 0.5, 0.5)
+                .fly(&[
+                    enter,
+                    complete,
+                    plane(2.0, 0.5),
+                    copter(0.5, 0.5),
+                    upright(copter(1.0, 1.0)),
+                    upright(plane(0.5, 1.0)),
+                ])
+                .card(),
+            lines: vec![(6, "6 C - 1 0 3F400000 00000000"), (7, "7 F 00000000 0 0 3F000000 00000000")],
+        },
+        Named {
+            name: "1.2, entry tilt: looked at in Copter too",
+            card: tailsitter(0.5, 0.5, 0.5)
+                .fly(&[Tick {
+                    tilt_rad: f32::NAN,
+                    ..copter(1.0, 0.5)
+                }])
+                .card(),
+            lines: vec![(2, "2 refused 2")],
+        },
+    ]
+}
+
+fn roll_cards() -> Vec<Named> {
+    let banked = |bank_rad, dt| Tick {
+        bank_rad,
+        ..plane(dt, 0.5)
+    };
+    let mut widest = quadplane_defaults();
+    widest[14] = PI;
+    let forward = |settings: &Settings| Flight::new(Airframe::Quadplane, settings).fly(&[plane(1.0, 0.5)]);
+    vec![
+        Named {
+            name: "1.2, bank: any number",
+            card: forward(&widest).fly(&[banked(PI, 1.0), banked(4.0, 1.0)]).card(),
+            lines: vec![
+                (3, "3 F 3F800000 0 0 3F000000 00000000"),
+                (4, "4 C 3F800000 0 15 3F000000 00000000"),
+            ],
+        },
+        Named {
+            name: "2.4, bad dt with a roll cut",
+            card: forward(&quadplane_defaults()).fly(&[banked(1.0, 0.0), plane(1.0, 0.5)]).card(),
+            lines: vec![(3, "3 refused 1"), (4, "4 F 3F800000 0 0 3F000000 00000000")],
+        },
+        Named {
+            name: "2.4, cut call: any reason",
+            card: forward(&quadplane_defaults()).cut(12).fly(&[plane(1.0, 0.5)]).card(),
+            lines: vec![
+                (3, "3 C 3F800000 0 12 3F000000 00000000"),
+                (4, "4 C 3F800000 0 12 3F000000 00000000"),
+            ],
+        },
+    ]
+}
+
+/// All of them: the first cards of the recorded list.
+pub fn all() -> Vec<Named> {
+    let example = vec![example()];
+    [example, quadplane_cards(), tailsitter_cards(), roll_cards()]
+        .into_iter()
+        .flatten()
+        .collect()
+}
+
+#[cfg(test)]
+mod tests {
+    use crate::card::transcript;
+
+    #[test]
+    fn each_line_is_as_said() {
+        for named in super::all() {
+            let text = transcript(&named.card);
+            let lines: Vec<&str> = text.lines().collect();
+            for (number, words) in named.lines {
+                assert_eq!(lines[number - 1], words, "{}\n{text}", named.name);
+            }
+        }
+    }
+}

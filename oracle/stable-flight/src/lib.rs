@@ -1,0 +1,3 @@
+// The Rust of stable-flight, as build.rs lifts it.
+#![allow(dead_code)]
+include!(concat!(env!("OUT_DIR"), "/lib.rs"));

@@ -1,11 +1,13 @@
-//! Lifts the Rust of stable-flight into this crate: the text as it stands, but for the cuts that are listed here and nowhere else.
-//! STABLE_FLIGHT_SRC names the folder with `crates/stable-flight/src`, by default ../shared/docs/src beside the repository.
+//! Takes the Rust of stable-flight into this crate. What is kept or cut of each file, and the lines put in front of it, are listed here
+//! and nowhere else; the text itself stands as it is.
+//! STABLE_FLIGHT_SRC names the folder with `crates/stable-flight/src`, an absolute path; by default ../shared/docs/src
+//! beside the repository.
 
 use std::path::{Path, PathBuf};
 use std::{env, fs};
 
 /// A file of the Rust and what becomes of it. `added` stands in front: lines of our own that bind what is left to the stand-ins.
-struct Lifted {
+struct Taken {
     file: &'static str,
     added: &'static str,
     kept: Kept,
@@ -18,8 +20,8 @@ enum Kept {
     Only(&'static [(&'static str, &'static [&'static str])]),
 }
 
-const LIFTED: &[Lifted] = &[
-    Lifted {
+const TAKEN: &[Taken] = &[
+    Taken {
         file: "guidance/vtol.rs",
         added: "pub mod open;",
         kept: Kept::AllBut(&[
@@ -31,22 +33,22 @@ const LIFTED: &[Lifted] = &[
             "pub use tailsitter::{",
         ]),
     },
-    Lifted {
+    Taken {
         file: "guidance/vtol/lift.rs",
         added: "pub(super) mod open;",
         kept: Kept::AllBut(&["mod params;"]),
     },
-    Lifted {
+    Taken {
         file: "guidance/vtol/forward.rs",
         added: "",
         kept: Kept::AllBut(&["mod params;"]),
     },
-    Lifted {
+    Taken {
         file: "guidance/vtol/quadplane/deceleration.rs",
         added: "",
         kept: Kept::AllBut(&[]),
     },
-    Lifted {
+    Taken {
         file: "guidance/vtol/quadplane.rs",
         added: "use crate::math::{DEG, saturate_symmetric};\nuse crate::{Setpoint, VehicleState};\npub(super) mod open;",
         kept: Kept::Only(&[
@@ -57,7 +59,7 @@ const LIFTED: &[Lifted] = &[
             ("fn forward_pitch_rad(", &[]),
         ]),
     },
-    Lifted {
+    Taken {
         file: "math.rs",
         added: "use core::f32::consts::PI;\nuse nalgebra::UnitQuaternion;",
         kept: Kept::Only(&[
@@ -71,7 +73,7 @@ const LIFTED: &[Lifted] = &[
             ("pub(crate) fn guard_sink(", &[]),
         ]),
     },
-    Lifted {
+    Taken {
         file: "controllers/mod.rs",
         added: "",
         kept: Kept::Only(&[
@@ -85,7 +87,7 @@ const LIFTED: &[Lifted] = &[
             ("pub(crate) fn check(", &[]),
         ]),
     },
-    Lifted {
+    Taken {
         file: "lib.rs",
         added: "pub mod controllers;\npub mod guidance {\n    pub mod vtol;\n}\nmod math;\npub mod open;",
         kept: Kept::Only(&[
@@ -134,9 +136,9 @@ fn main() {
         None => here.join("../../../shared/docs/src"),
     };
     let from = root.join("crates/stable-flight/src");
-    for lifted in LIFTED {
-        let text = read(&from.join(lifted.file));
-        write(&out.join(lifted.file), &lift(lifted, &text));
+    for taken in TAKEN {
+        let text = read(&from.join(taken.file));
+        write(&out.join(taken.file), &kept(taken, &text));
     }
     for (ours, to) in OPENED {
         write(&out.join(to), &read(&here.join(ours)));
@@ -146,10 +148,9 @@ fn main() {
 fn read(path: &Path) -> String {
     println!("cargo::rerun-if-changed={}", path.display());
     fs::read_to_string(path).unwrap_or_else(|error| {
-        panic!(
-            "{}: {error}; STABLE_FLIGHT_SRC names the folder of the Rust's sources",
-            path.display()
-        )
+        println!("cargo::error={}: {error}", path.display());
+        println!("cargo::error=STABLE_FLIGHT_SRC has to name the folder of the Rust's sources, with crates/stable-flight/src in it");
+        std::process::exit(1)
     })
 }
 
@@ -159,9 +160,9 @@ fn write(path: &Path, text: &str) {
 }
 
 /// What is kept of a file. Our lines stand after its head of `//!` lines, which has to stay first.
-fn lift(lifted: &Lifted, text: &str) -> String {
+fn kept(taken: &Taken, text: &str) -> String {
     let lines: Vec<&str> = text.lines().collect();
-    let (head, kept): (Vec<&str>, Vec<&str>) = match lifted.kept {
+    let (head, kept): (Vec<&str>, Vec<&str>) = match taken.kept {
         Kept::AllBut(cut) => {
             let left = without(&lines, cut);
             left.into_iter().partition(|line| line.starts_with("//!"))
@@ -175,7 +176,7 @@ fn lift(lifted: &Lifted, text: &str) -> String {
         ),
     };
     let mut all = head;
-    all.push(lifted.added);
+    all.push(taken.added);
     all.extend(kept);
     all.join("\n") + "\n"
 }

@@ -24,7 +24,7 @@ pub struct Kept {
     pub quadplane: LiftTransition,
 }
 
-// The state of a new machine.
+// The state of a new machine, written out, since making one may be refused.
 fn new_state() -> TransitionState {
     TransitionState {
         gate: ForwardGate {

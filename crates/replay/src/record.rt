@@ -1,4 +1,4 @@
-// A record of 80 bytes: byte 0 the kind, byte 1 the option, bytes 2 and 3 zero, then numbers 1 to 19, number i in little-endian order from byte 4·i on.
+// A record of 80 bytes: byte 0 the kind, byte 1 the option, bytes 2 and 3 not looked at, then numbers 1 to 19, number i in little-endian order from byte 4·i on.
 use machines::Airspeed;
 use machines::FlightRegime;
 use machines::ModeRefusal;

@@ -1,73 +1,65 @@
-//! Stand-in for libm: each function hands out a number that the caller supplied (document 01, section 1).
+//! Stand-in for libm: each function hands out the number that the caller supplied (document 01, section 1), if it is asked for the
+//! argument that this number belongs to, and else NaN. A function that was supplied nothing panics.
 
 use std::cell::RefCell;
 
-#[derive(Default)]
-struct Supplied {
-    cosines: Vec<f32>,
-    tilt_rad: Option<f32>,
-    tangent: Option<f32>,
+/// A number supplied for an argument.
+#[derive(Clone, Copy)]
+pub struct For {
+    pub argument: f32,
+    pub number: f32,
 }
 
 thread_local! {
-    static SUPPLIED: RefCell<Supplied> = RefCell::default();
+    static COSINES: RefCell<Vec<For>> = RefCell::default();
+    static TILT: RefCell<Option<For>> = RefCell::default();
+    static TANGENT: RefCell<Option<For>> = RefCell::default();
 }
 
-/// Runs `call` with the two done cosines at hand: the forward one is handed out first.
-pub fn with_cosines<T>(forward: f32, back: f32, call: impl FnOnce() -> T) -> T {
-    with(
-        Supplied {
-            cosines: vec![back, forward],
-            ..Supplied::default()
-        },
-        call,
-    )
-}
-
-/// Runs `call` with the entry tilt at hand.
-pub fn with_tilt<T>(tilt_rad: f32, call: impl FnOnce() -> T) -> T {
-    with(
-        Supplied {
-            tilt_rad: Some(tilt_rad),
-            ..Supplied::default()
-        },
-        call,
-    )
-}
-
-/// Runs `call` with the tangent for the split at hand.
-pub fn with_tangent<T>(tangent: f32, call: impl FnOnce() -> T) -> T {
-    with(
-        Supplied {
-            tangent: Some(tangent),
-            ..Supplied::default()
-        },
-        call,
-    )
-}
-
-fn with<T>(supplied: Supplied, call: impl FnOnce() -> T) -> T {
-    SUPPLIED.set(supplied);
+/// Runs `call` with the done cosines at hand, the forward one first.
+pub fn with_cosines<T>(forward: For, back: For, call: impl FnOnce() -> T) -> T {
+    COSINES.set(vec![back, forward]);
     let answer = call();
-    SUPPLIED.take();
+    COSINES.take();
     answer
 }
 
-fn hand_out(number: impl FnOnce(&mut Supplied) -> Option<f32>) -> f32 {
-    SUPPLIED.with_borrow_mut(|supplied| number(supplied).expect("a number that nobody supplied"))
+/// Runs `call` with the entry tilt at hand.
+pub fn with_tilt<T>(tilt: For, call: impl FnOnce() -> T) -> T {
+    TILT.set(Some(tilt));
+    let answer = call();
+    TILT.take();
+    answer
+}
+
+/// Runs `call` with the tangent for the split at hand.
+pub fn with_tangent<T>(tangent: For, call: impl FnOnce() -> T) -> T {
+    TANGENT.set(Some(tangent));
+    let answer = call();
+    TANGENT.take();
+    answer
+}
+
+fn hand_out(supplied: Option<For>, asked: f32) -> f32 {
+    let supplied = supplied.expect("a number that nobody supplied");
+    if supplied.argument.to_bits() == asked.to_bits() {
+        supplied.number
+    } else {
+        f32::NAN
+    }
 }
 
 /// A done cosine.
-pub fn cosf(_angle_rad: f32) -> f32 {
-    hand_out(|supplied| supplied.cosines.pop())
+pub fn cosf(angle_rad: f32) -> f32 {
+    hand_out(COSINES.with_borrow_mut(Vec::pop), angle_rad)
 }
 
 /// The entry tilt.
-pub fn acosf(_cosine: f32) -> f32 {
-    hand_out(|supplied| supplied.tilt_rad)
+pub fn acosf(cosine: f32) -> f32 {
+    hand_out(TILT.with_borrow(|tilt| *tilt), cosine)
 }
 
 /// The tangent for the split.
-pub fn tanf(_angle_rad: f32) -> f32 {
-    hand_out(|supplied| supplied.tangent)
+pub fn tanf(angle_rad: f32) -> f32 {
+    hand_out(TANGENT.with_borrow(|tangent| *tangent), angle_rad)
 }

@@ -9,6 +9,7 @@ use stable_flight::{
     AbsoluteAttitudeCommand, AbsoluteRateCommand, AttitudeCommand, AttitudeSetpoint, BlendSetpoint, BodyRateSetpoint, Configurable,
     ControlInput, LandCommand, PlaneSetpoint, RateCommand, RateSetpoint, Setpoint, Vec2, Vec3, VehicleState, WaypointCommand, open,
 };
+use std::f32::consts::FRAC_PI_4;
 
 /// One line for each whole record.
 pub fn answers(list: &[u8]) -> String {
@@ -217,7 +218,7 @@ impl Kept {
     /// Kinds 34 and 35: the deceleration.
     fn deceleration_line(&mut self, r: &Record) -> String {
         if r.kind() == 34 {
-            self.deceleration = open::Deceleration::default();
+            self.deceleration.reset();
             return word(self.deceleration.pitch_rad());
         }
         let dt = r.number(1);
@@ -252,7 +253,11 @@ impl Kept {
         if used && !(0.0..=1.0).contains(&tangent) {
             return refused(Refusal::Number(5));
         }
-        let split = libm::with_tangent(tangent, || self.split.split(pitch_rad));
+        let supplied = libm::For {
+            argument: (-pitch_rad).clamp(0.0, FRAC_PI_4),
+            number: tangent,
+        };
+        let split = libm::with_tangent(supplied, || self.split.split(pitch_rad));
         let limit_rad = self.split.config().pitch_limit_rad;
         words(&[first_of_zeros(pitch_rad, -limit_rad, split.pitch_rad), split.thrust])
     }
@@ -327,7 +332,7 @@ impl Kept {
     /// Kinds 44 and 45: the hold.
     fn hold_line(&mut self, r: &Record) -> String {
         if r.kind() == 44 {
-            self.hold = open::Hold::default();
+            self.hold.clear();
             return "-".to_string();
         }
         let state = VehicleState {

@@ -73,16 +73,20 @@ pub fn record(card: &[u8], index: usize) -> Record<'_> {
     Record(&card[RECORD_BYTES * index..RECORD_BYTES * (index + 1)])
 }
 
-/// The check of a whole card, before any record runs.
-pub fn check(card: &[u8], marks: usize) -> Result<Checked, Refusal> {
+/// The check of a whole card, before any record runs. Past 6 and 7 the marks become 1 for the header and each record passed, and 0 for
+/// the other records; the rest stays.
+pub fn check(card: &[u8], marks: &mut [u8]) -> Result<Checked, Refusal> {
     let whole = card.len().is_multiple_of(RECORD_BYTES);
     if !whole || card.is_empty() || card.len() > RECORD_BYTES * MOST_RECORDS {
         return Err(Refusal::Number(6));
     }
     let records = card.len() / RECORD_BYTES;
-    if marks < records {
+    if marks.len() < records {
         return Err(Refusal::Number(7));
     }
+    let marks = &mut marks[..records];
+    marks.fill(0);
+    marks[0] = 1;
     let header = record(card, 0);
     let airframe = match (header.kind(), header.option()) {
         (5, 0) => Airframe::Tailsitter,
@@ -93,27 +97,25 @@ pub fn check(card: &[u8], marks: usize) -> Result<Checked, Refusal> {
         0 => {}
         field => return Err(Refusal::Setting(field)),
     }
-    let chain = chain(card, records)?;
+    let chain = chain(card, marks)?;
     Ok(Checked { airframe, chain })
 }
 
-/// The records after the header, in the order of the chain.
-fn chain(card: &[u8], records: usize) -> Result<Vec<usize>, Refusal> {
-    let mut passed = vec![false; records];
-    passed[0] = true;
+/// The records after the header, in the order of the chain, each marked as it is passed.
+fn chain(card: &[u8], marks: &mut [u8]) -> Result<Vec<usize>, Refusal> {
     let mut chain = Vec::new();
     let mut next = record(card, 0).next();
     while next != 0 {
-        if next >= records {
+        if next >= marks.len() {
             return Err(Refusal::Number(8));
         }
-        if passed[next] {
+        if marks[next] == 1 {
             return Err(Refusal::Number(9));
         }
         if !record(card, next).known() {
             return Err(Refusal::Number(10));
         }
-        passed[next] = true;
+        marks[next] = 1;
         chain.push(next);
         next = record(card, next).next();
     }
@@ -132,7 +134,7 @@ pub fn machine(card: &[u8], airframe: Airframe) -> Joined {
 
 /// What the runner writes for a card.
 pub fn transcript(card: &[u8]) -> String {
-    let checked = match check(card, MOST_RECORDS) {
+    let checked = match check(card, &mut [0; MOST_RECORDS]) {
         Ok(checked) => checked,
         Err(refusal) => return format!("card {}\n", refusal_words(refusal)),
     };
@@ -202,4 +204,42 @@ fn line_words(line: &Line) -> String {
         bits(line.thrust),
         bits(line.pitch_rad),
     )
+}
+
+#[cfg(test)]
+mod tests {
+    use super::{RECORD_BYTES, check};
+    use crate::machine::Refusal;
+    use crate::named;
+
+    /// The refusal of a card, and its marks; they hold 7 before.
+    fn marked(card: &[u8], marks: usize) -> (Option<Refusal>, Vec<u8>) {
+        let mut lent = vec![7; marks];
+        (check(card, &mut lent).err(), lent)
+    }
+
+    /// The example of section 7, nine records, with one byte changed.
+    fn changed(at: usize, to: u8) -> Vec<u8> {
+        let mut card = named::all().swap_remove(0).card;
+        card[at] = to;
+        card
+    }
+
+    #[test]
+    fn marks_are_as_section_9_says() {
+        let link = |record: usize| RECORD_BYTES * record + 2;
+        let good = changed(0, 6);
+        let number = |n| Some(Refusal::Number(n));
+        assert_eq!(marked(&good[1..], 9), (number(6), vec![7; 9]));
+        assert_eq!(marked(&good, 8), (number(7), vec![7; 8]));
+        assert_eq!(marked(&good, 10), (None, vec![1, 1, 1, 1, 1, 1, 1, 1, 1, 7]));
+        assert_eq!(marked(&changed(0, 7), 9), (number(10), vec![1, 0, 0, 0, 0, 0, 0, 0, 0]));
+        assert_eq!(marked(&changed(link(3), 9), 9), (number(8), vec![1, 1, 1, 1, 0, 0, 0, 0, 0]));
+        assert_eq!(marked(&changed(link(3), 2), 9), (number(9), vec![1, 1, 1, 1, 0, 0, 0, 0, 0]));
+        assert_eq!(
+            marked(&changed(4 * RECORD_BYTES, 5), 9),
+            (number(10), vec![1, 1, 1, 1, 0, 0, 0, 0, 0])
+        );
+        assert_eq!(marked(&changed(link(3), 6), 9), (None, vec![1, 1, 1, 1, 0, 0, 1, 1, 1]));
+    }
 }

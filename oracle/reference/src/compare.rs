@@ -9,7 +9,7 @@ use std::process::{Command, ExitCode, Stdio};
 const KEPT: &str = "target/differ";
 
 /// Runs cards 0 to `count` of the seed, shows the first differing line of each card that differs, keeps those cards, and ends with the count.
-pub fn live(count: u64, seed: u64, runner: &[&str]) -> ExitCode {
+pub fn cards(count: u64, seed: u64, runner: &[&str]) -> ExitCode {
     let mut differ = 0;
     for index in 0..count {
         let bytes = flights::card(seed, index);
@@ -30,7 +30,7 @@ pub fn live(count: u64, seed: u64, runner: &[&str]) -> ExitCode {
     ExitCode::from(u8::from(differ > 0))
 }
 
-/// What the runner writes for a card. It may stop reading early: a card that is too long is refused by its length.
+/// What the runner writes for a card, and how it ended if that is not well. It may stop reading early: a card that is too long is refused by its length.
 fn run(runner: &[&str], bytes: &[u8]) -> std::io::Result<String> {
     let mut child = Command::new(runner[0])
         .args(&runner[1..])
@@ -42,7 +42,11 @@ fn run(runner: &[&str], bytes: &[u8]) -> std::io::Result<String> {
     let writer = std::thread::spawn(move || drop(input.write_all(&card)));
     let output = child.wait_with_output()?;
     writer.join().expect("a thread that ends");
-    Ok(String::from_utf8_lossy(&output.stdout).into_owned())
+    let mut written = String::from_utf8_lossy(&output.stdout).into_owned();
+    if !output.status.success() {
+        written.push_str(&format!("({})", output.status));
+    }
+    Ok(written)
 }
 
 /// The first line in which two transcripts differ, if any.

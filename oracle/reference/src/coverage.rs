@@ -114,7 +114,7 @@ fn written(counts: &Counts, cards: u64, calls: u64) -> String {
 /// Runs a card and counts what it reaches. Answers how many calls it holds.
 fn run(counts: &mut Counts, bytes: &[u8]) -> u64 {
     cards::count(counts, bytes);
-    let Ok(checked) = card::check(bytes, MOST_RECORDS) else {
+    let Ok(checked) = card::check(bytes, &mut [0; MOST_RECORDS]) else {
         return 0;
     };
     let joined = card::machine(bytes, checked.airframe);

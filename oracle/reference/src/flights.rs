@@ -2,22 +2,22 @@
 //! numbers of every class, chains of every shape, and cards that are refused.
 
 mod chains;
+mod classes;
 mod clocks;
 mod each_mode;
 mod fitted;
 mod flight;
 mod rows;
 mod usual;
-mod wild;
 
-pub use wild::{ends, fields, past_ends};
+pub use classes::{ends, fields, past_ends};
 
 use crate::machine::Airframe;
 use crate::random::Random;
 use flight::Flight;
 
-/// The families of cards, one after the other.
-const FAMILIES: u64 = 16;
+/// The groups of cards, one after the other.
+const GROUPS: u64 = 16;
 /// The headers that one field makes bad: of the tailsitter, then of the quadplane.
 const BAD_HEADERS: u64 = 17 + 15;
 
@@ -25,16 +25,16 @@ const BAD_HEADERS: u64 = 17 + 15;
 pub fn card(seed: u64, index: u64) -> Vec<u8> {
     let first = Random::new(seed).draw();
     let random = Random::new(first ^ index.wrapping_mul(0xD1B5_4A32_D192_ED03));
-    let (family, turn) = (index % FAMILIES, index / FAMILIES);
-    match family {
-        0 | 1 => as_flown(random, airframe_of(family)),
-        2 | 3 => by_rows(random, airframe_of(family)),
-        4 | 5 => at_bounds(random, airframe_of(family)),
-        6 | 7 => in_each_mode(random, airframe_of(family), turn),
-        8 | 9 => wild_steps(random, airframe_of(family), turn),
-        10 | 11 => wild_settings(random, airframe_of(family), turn),
-        12 | 13 => headers(random, 2 * turn + family - 12),
-        _ => shapes(random, 2 * turn + family - 14),
+    let (group, turn) = (index % GROUPS, index / GROUPS);
+    match group {
+        0 | 1 => as_flown(random, airframe_of(group)),
+        2 | 3 => by_rows(random, airframe_of(group)),
+        4 | 5 => at_bounds(random, airframe_of(group)),
+        6 | 7 => in_each_mode(random, airframe_of(group), turn),
+        8 | 9 => class_steps(random, airframe_of(group), turn),
+        10 | 11 => class_settings(random, airframe_of(group), turn),
+        12 | 13 => headers(random, 2 * turn + group - 12),
+        _ => shapes(random, 2 * turn + group - 14),
     }
 }
 
@@ -43,8 +43,8 @@ pub fn first(seed: u64, count: u64) -> impl Iterator<Item = Vec<u8>> {
     (0..count).map(move |index| card(seed, index))
 }
 
-fn airframe_of(family: u64) -> Airframe {
-    if family.is_multiple_of(2) {
+fn airframe_of(group: u64) -> Airframe {
+    if group.is_multiple_of(2) {
         Airframe::Tailsitter
     } else {
         Airframe::Quadplane
@@ -103,26 +103,26 @@ fn in_each_mode(random: Random, airframe: Airframe, turn: u64) -> Vec<u8> {
     finished(flight)
 }
 
-fn wild_steps(mut random: Random, airframe: Airframe, turn: u64) -> Vec<u8> {
+fn class_steps(mut random: Random, airframe: Airframe, turn: u64) -> Vec<u8> {
     let settings = match random.below(3) {
-        0 => wild::extreme_settings(&mut random, airframe),
+        0 => classes::extreme_settings(&mut random, airframe),
         _ => usual::settings(&mut random, airframe),
     };
     let mut flight = Flight::new(random, airframe, &settings);
     if turn % 10 == 9 {
-        wild::primes(&mut flight);
+        classes::primes(&mut flight);
     } else {
-        wild::steps(&mut flight, turn - turn / 10, 15);
+        classes::steps(&mut flight, turn - turn / 10, 15);
     }
     finished(flight)
 }
 
-fn wild_settings(random: Random, airframe: Airframe, turn: u64) -> Vec<u8> {
+fn class_settings(random: Random, airframe: Airframe, turn: u64) -> Vec<u8> {
     let mut flight = new_flight(random, airframe);
     match airframe {
-        Airframe::Tailsitter => wild::settings(&mut flight, turn, 11),
-        Airframe::Quadplane if turn % 10 == 9 => wild::overflowing_shortfall(&mut flight),
-        Airframe::Quadplane => wild::settings(&mut flight, turn - turn / 10, 11),
+        Airframe::Tailsitter => classes::settings(&mut flight, turn, 11),
+        Airframe::Quadplane if turn % 10 == 9 => classes::overflowing_shortfall(&mut flight),
+        Airframe::Quadplane => classes::settings(&mut flight, turn - turn / 10, 11),
     }
     finished(flight)
 }
@@ -135,7 +135,7 @@ fn headers(mut random: Random, turn: u64) -> Vec<u8> {
         17..BAD_HEADERS => chains::bad_header(&mut random, Airframe::Quadplane, turn as usize - 16),
         _ => {
             let airframe = airframe_of(turn);
-            let settings = wild::extreme_settings(&mut random, airframe);
+            let settings = classes::extreme_settings(&mut random, airframe);
             let mut flight = Flight::new(random, airframe, &settings);
             flight.prime();
             while flight.records.len() < 20 {

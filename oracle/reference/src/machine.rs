@@ -2,7 +2,7 @@
 
 use crate::settings::{self, Settings};
 use nalgebra::UnitQuaternion;
-use stable_flight::guidance::vtol::{LiftTransition, Transition};
+use stable_flight::guidance::vtol::{LiftTransition, LiftTransitionStep, Transition, TransitionStep};
 use stable_flight::{Configurable, FlightMode, FlightRegime, ModeRefusal, Vec3, VehicleState, open};
 use std::cell::Cell;
 use std::panic;
@@ -166,7 +166,7 @@ impl Machine {
             Machine::Quadplane(machine) => machine.set_config(settings::lift_transition_config(s)),
         }
         .expect("settings that were found good");
-        Ok(self.shown(false))
+        Ok(self.shown())
     }
 
     pub fn prime(&mut self, z_m: f32) -> Moved {
@@ -178,7 +178,7 @@ impl Machine {
             Machine::Tailsitter(machine) => machine.prime(&state),
             Machine::Quadplane(machine) => machine.prime(&state),
         }
-        self.shown(false)
+        self.shown()
     }
 
     /// Refusals 1 and 2 of a step.
@@ -200,19 +200,33 @@ impl Machine {
             return Err(refusal);
         }
         let (dt, requested, state) = (step.dt(), step.requested(), step.state());
-        let handoff = match self {
-            Machine::Tailsitter(machine) => libm::with_tilt(step.entry_tilt_rad(), || machine.update(dt, requested, &state)).handoff,
-            Machine::Quadplane(machine) => machine.update(dt, requested, &state).handoff,
-        };
-        Ok(self.shown(handoff))
+        Ok(match self {
+            Machine::Tailsitter(machine) => {
+                let tilt = libm::For {
+                    argument: open::nose_up_cosine(&state).clamp(-1.0, 1.0),
+                    number: step.entry_tilt_rad(),
+                };
+                let step = libm::with_tilt(tilt, || machine.update(dt, requested, &state));
+                tailsitter_moved(machine, &step)
+            }
+            Machine::Quadplane(machine) => {
+                let step = machine.update(dt, requested, &state);
+                quadplane_moved(machine, &step)
+            }
+        })
     }
 
     pub fn cut_short(&mut self, why: ModeRefusal) -> Moved {
-        let handoff = match self {
-            Machine::Tailsitter(machine) => machine.cut_short(why).handoff,
-            Machine::Quadplane(machine) => machine.cut_short(why).handoff,
-        };
-        self.shown(handoff)
+        match self {
+            Machine::Tailsitter(machine) => {
+                let step = machine.cut_short(why);
+                tailsitter_moved(machine, &step)
+            }
+            Machine::Quadplane(machine) => {
+                let step = machine.cut_short(why);
+                quadplane_moved(machine, &step)
+            }
+        }
     }
 
     pub fn mode(&self) -> FlightMode {
@@ -222,32 +236,57 @@ impl Machine {
         }
     }
 
-    pub fn shown(&self, handoff: bool) -> Moved {
-        let (report, output) = match self {
-            Machine::Tailsitter(machine) => (machine.report(), tilt(machine)),
-            Machine::Quadplane(machine) => (machine.report(), Some(open::lift_share(machine))),
-        };
-        Moved {
-            mode: report.mode,
-            output,
-            handoff,
-            report: report_number(report.refusal),
+    /// What a prime or a settings call answers: the Rust's calls return nothing, so it is read from the machine.
+    pub fn shown(&self) -> Moved {
+        match self {
+            Machine::Tailsitter(machine) => Moved {
+                mode: machine.report().mode,
+                output: tilt(machine, open::tilt_target_rad(machine)),
+                handoff: false,
+                report: report_number(machine.report().refusal),
+            },
+            Machine::Quadplane(machine) => Moved {
+                mode: machine.report().mode,
+                output: Some(open::lift_share(machine)),
+                handoff: false,
+                report: report_number(machine.report().refusal),
+            },
         }
+    }
+}
+
+/// The step that the Rust returned, and its report.
+fn tailsitter_moved(machine: &Transition, step: &TransitionStep) -> Moved {
+    Moved {
+        mode: step.mode,
+        output: tilt(machine, step.tilt_target_rad),
+        handoff: step.handoff,
+        report: report_number(machine.report().refusal),
+    }
+}
+
+/// The step that the Rust returned, and its report.
+fn quadplane_moved(machine: &LiftTransition, step: &LiftTransitionStep) -> Moved {
+    Moved {
+        mode: step.mode,
+        output: Some(step.lift_share),
+        handoff: step.handoff,
+        report: report_number(machine.report().refusal),
     }
 }
 
 /// Runs `call` with the settings' two done cosines at hand.
 fn with_done_cosines<T>(s: &Settings, call: impl FnOnce() -> T) -> T {
-    libm::with_cosines(s[15], s[16], call)
+    let supplied = |angle: usize, cosine: usize| libm::For {
+        argument: s[angle],
+        number: s[cosine],
+    };
+    libm::with_cosines(supplied(1, 15), supplied(5, 16), call)
 }
 
 /// The tilt. `max` of two zeros may give either in the Rust; here it gives the first named, as document 01, section 1, does.
-fn tilt(machine: &Transition) -> Option<f32> {
-    let tilt_rad = open::tilt_target_rad(machine)?;
+fn tilt(machine: &Transition, tilt_rad: Option<f32>) -> Option<f32> {
     let first = open::back_ramp(machine);
-    if machine.report().mode == FlightMode::ToCopter && tilt_rad == 0.0 && first == 0.0 {
-        Some(first)
-    } else {
-        Some(tilt_rad)
-    }
+    let zeros = machine.report().mode == FlightMode::ToCopter && first == 0.0;
+    tilt_rad.map(|tilt_rad| if zeros && tilt_rad == 0.0 { first } else { tilt_rad })
 }

@@ -28,7 +28,7 @@ fn main() -> ExitCode {
         ["calls"] => write(calls::answers(&read()).as_bytes()),
         ["make-calls", seed] => write(&call_list::make(number(seed))),
         ["count-calls"] => write(call_list::counts(&read()).as_bytes()),
-        ["compare", count, seed, ref runner @ ..] if !runner.is_empty() => compare::live(number(count), number(seed), runner),
+        ["compare", count, seed, ref runner @ ..] if !runner.is_empty() => compare::cards(number(count), number(seed), runner),
         _ => {
             eprint!("{USAGE}");
             ExitCode::from(2)

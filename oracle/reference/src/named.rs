@@ -325,4 +325,11 @@ mod tests {
             }
         }
     }
+
+    #[test]
+    fn the_example_is_byte_for_byte() {
+        let example = super::example();
+        let said: String = example.lines.iter().map(|(_, words)| format!("{words}\n")).collect();
+        assert_eq!(transcript(&example.card), said);
+    }
 }

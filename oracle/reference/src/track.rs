@@ -45,7 +45,7 @@ pub fn valid_airspeed(step: &Step) -> Option<f32> {
 
 impl Track {
     pub fn new(joined: Joined) -> Track {
-        let moved = joined.machine().shown(false);
+        let moved = joined.machine().shown();
         let handoff_s = joined.settings()[13];
         Track {
             airframe: joined.machine().airframe(),
@@ -238,7 +238,7 @@ mod tests {
     fn clock_and_start_are_the_machine_s() {
         for index in 0..3000 {
             let bytes = flights::card(5, index);
-            let Ok(checked) = card::check(&bytes, 800) else {
+            let Ok(checked) = card::check(&bytes, &mut [0; 800]) else {
                 continue;
             };
             let mut track = Track::new(card::machine(&bytes, checked.airframe));

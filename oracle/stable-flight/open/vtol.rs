@@ -14,6 +14,10 @@ impl Hold {
     pub fn input(&mut self, fallen_back: bool, input: &ControlInput, state: &VehicleState) -> ControlInput {
         self.0.input(fallen_back, input, state)
     }
+
+    pub fn clear(&mut self) {
+        self.0.clear();
+    }
 }
 
 pub fn tilt_target_rad(transition: &Transition) -> Option<f32> {

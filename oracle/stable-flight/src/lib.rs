@@ -1,3 +1,3 @@
-// The Rust of stable-flight, as build.rs lifts it.
+// The Rust of stable-flight, as build.rs takes it.
 #![allow(dead_code)]
 include!(concat!(env!("OUT_DIR"), "/lib.rs"));

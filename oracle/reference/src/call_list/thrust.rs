@@ -241,7 +241,7 @@ pub fn add_deceleration(list: &mut List) {
     list.add(35, 0, &[0.5, 10.0, 0.0, -1.0, 0.0, 2.0, 0.1]);
     list.add(34, 0, &[]);
     deceleration_classes(list);
-    pinned(list);
+    at_the_ends(list);
     speeds(list);
     not_a_number(list);
     decelerations_kept(list);
@@ -281,7 +281,7 @@ fn still(list: &mut List, dt: f32, target: f32, gain: f32) {
 }
 
 /// The pitch at 0 and at 0.3, and beside them.
-fn pinned(list: &mut List) {
+fn at_the_ends(list: &mut List) {
     for target in around(0.3).into_iter().chain([0.0, -0.0, SMALLEST, -SMALLEST, -1.0, 9.0]) {
         list.add(34, 0, &[]);
         still(list, 1.0, target, 1.0);

@@ -214,8 +214,8 @@ fn pitches(seen: &Seen<Step>) -> Vec<Item> {
     let held = applied && pitch == first && first > 0.0 && first < 0.3;
     let copter = seen.before.mode == FlightMode::Copter && seen.after.mode == FlightMode::Copter;
     vec![
-        ("pitch pinned at 0", moves && raw < 0.0 && pitch == 0.0),
-        ("pitch pinned at 0.3", moves && raw > 0.3 && pitch == 0.3),
+        ("pitch held at 0", moves && raw < 0.0 && pitch == 0.0),
+        ("pitch held at 0.3", moves && raw > 0.3 && pitch == 0.3),
         ("pitch between 0 and 0.3", moves && pitch > 0.0 && pitch < 0.3),
         ("pitch falls, above 0", moves && pitch > 0.0 && pitch < first),
         ("pitch held, deceleration NaN", held && deceleration.is_nan()),

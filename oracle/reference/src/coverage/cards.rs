@@ -23,7 +23,7 @@ fn refused_field(airframe: Airframe, field: u8) -> String {
 }
 
 pub fn count(counts: &mut Counts, bytes: &[u8]) {
-    let answer = card::check(bytes, MOST_RECORDS);
+    let answer = card::check(bytes, &mut [0; MOST_RECORDS]);
     if matches!(answer, Err(Refusal::Number(6))) {
         return counts.reach_all("card refused 6", &lengths(bytes));
     }

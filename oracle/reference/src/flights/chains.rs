@@ -1,7 +1,7 @@
 //! Records laid out as cards: good chains of every shape, and cards that are refused.
 
+use super::classes;
 use super::flight::{Flight, RecordBytes, header};
-use super::wild;
 use crate::card::{MOST_RECORDS, RECORD_BYTES};
 use crate::machine::Airframe;
 use crate::random::Random;
@@ -61,7 +61,7 @@ fn placed(random: &mut Random, records: &[RecordBytes], places: &[usize], count:
 
 /// A header with this field bad, and up to three records of any bytes.
 pub fn bad_header(random: &mut Random, airframe: Airframe, field: usize) -> Vec<u8> {
-    let settings = wild::bad_settings(random, airframe, field);
+    let settings = classes::bad_settings(random, airframe, field);
     let mut card = header(random, airframe, &settings).to_vec();
     card[2] = random.below(3) as u8;
     let more = RECORD_BYTES * random.below(4);

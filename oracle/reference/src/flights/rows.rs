@@ -1,7 +1,7 @@
 //! Steps chosen by the rows of document 01, section 4, that are possible in the present mode.
 
 use super::flight::Flight;
-use super::{usual, wild};
+use super::{classes, usual};
 use crate::joined::Call;
 use crate::machine::Step;
 use stable_flight::FlightMode;
@@ -175,7 +175,7 @@ impl Flight {
     /// Nose-up near the forward cosine, or not finite.
     fn nose_near_cosine(&mut self) -> Step {
         let mut step = self.hold();
-        let edges = wild::with_neighbours(self.track.field(16), &NOT_FINITE);
+        let edges = classes::with_neighbours(self.track.field(16), &NOT_FINITE);
         let c = self.random.pick(&edges);
         self.set_nose_up(&mut step, c);
         step.airspeed_present = false;
@@ -291,7 +291,7 @@ impl Flight {
     fn back_edge(&mut self) -> Step {
         let mut step = self.hold();
         if self.track.is_tailsitter() {
-            let edges = wild::with_neighbours(self.track.field(17), &NOT_FINITE);
+            let edges = classes::with_neighbours(self.track.field(17), &NOT_FINITE);
             let c = self.random.pick(&edges);
             self.set_nose_up(&mut step, c);
         } else {

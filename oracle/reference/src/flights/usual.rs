@@ -67,12 +67,12 @@ pub fn settings(random: &mut Random, airframe: Airframe) -> Settings {
     if airframe == Airframe::Quadplane && random.once_in(6) {
         s[..15].copy_from_slice(&EXAMPLE);
     } else if !random.once_in(6) {
-        jitter(random, airframe, &mut s);
+        varied(random, airframe, &mut s);
     }
     if bad_field(airframe, &s) == 0 { s } else { defaults(airframe) }
 }
 
-fn jitter(random: &mut Random, airframe: Airframe, s: &mut Settings) {
+fn varied(random: &mut Random, airframe: Airframe, s: &mut Settings) {
     for x in s.iter_mut() {
         *x *= random.between(0.6, 1.4);
     }

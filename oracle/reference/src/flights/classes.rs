@@ -115,7 +115,7 @@ pub fn steps(flight: &mut Flight, turn: u64, count: u64) {
 
 fn step(flight: &mut Flight, number: usize, x: f32, lap: u64) {
     let mut step = if flight.random.once_in(2) { flight.hold() } else { flight.plain() };
-    // Refusals 1 and 2 hide what else is wild.
+    // Refusals 1 and 2 hide what else is out of the ordinary.
     if number != 1 && number != 13 && flight.random.once_in(4) {
         for _ in 0..3 {
             let place = flight.random.below(15);

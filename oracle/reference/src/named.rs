@@ -210,8 +210,13 @@ fn quadplane_cards() -> Vec<Named> {
     ]
 }
 
-fn tailsitter_cards() -> Vec<Named> {
-    let (enter, complete) = (upright(plane(0.5, 0.5)), plane(0.5, 0.0));
+/// The tailsitter's steps into ToPlane and Plane.
+fn into_plane() -> [Tick; 2] {
+    [upright(plane(0.5, 0.5)), plane(0.5, 0.0)]
+}
+
+fn tailsitter_thrust_cards() -> Vec<Named> {
+    let [enter, complete] = into_plane();
     vec![
         Named {
             name: "2.1, tailsitter ToPlane: field 10 alone",
@@ -235,6 +240,12 @@ fn tailsitter_cards() -> Vec<Named> {
             card: tailsitter(0.5, 0.5, 0.5).fly(&[upright(copter(1.0, f32::NAN))]).card(),
             lines: vec![(2, "2 C - 0 0 00000000 00000000")],
         },
+    ]
+}
+
+fn tailsitter_blend_cards() -> Vec<Named> {
+    let [enter, complete] = into_plane();
+    vec![
         Named {
             name: "2.2, tailsitter ToCopter to Plane: starts a blend",
             card: tailsitter(2.0, 0.5, 0.5)
@@ -305,10 +316,14 @@ fn roll_cards() -> Vec<Named> {
 /// All of them: the first cards of the recorded list.
 pub fn all() -> Vec<Named> {
     let example = vec![example()];
-    [example, quadplane_cards(), tailsitter_cards(), roll_cards()]
-        .into_iter()
-        .flatten()
-        .collect()
+    let parts = [
+        example,
+        quadplane_cards(),
+        tailsitter_thrust_cards(),
+        tailsitter_blend_cards(),
+        roll_cards(),
+    ];
+    parts.into_iter().flatten().collect()
 }
 
 #[cfg(test)]

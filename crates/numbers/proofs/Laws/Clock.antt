@@ -149,7 +149,7 @@ not-infinity-lt nan h = h
 not-infinity-lt (inf t) h = h
 not-infinity-lt (fin t n d) h = h
 
-infinity-minus : (y : Float) → T (finite y) → inf false ⊖ y ≡ inf false
+pub infinity-minus : (y : Float) → T (finite y) → inf false ⊖ y ≡ inf false
 unfolding sub
 infinity-minus nan f = absurd f
 infinity-minus (inf t) f = absurd f

@@ -1,0 +1,4 @@
+pub mod Machine
+pub mod Joined
+pub mod Shown
+pub mod List

@@ -1,0 +1,243 @@
+// The joined machine (document 01, section 6).
+use crate::answer::Answer;
+use crate::answer::Line;
+use crate::call::Call;
+use crate::call::StepInput;
+use crate::machine::Airframe;
+use crate::machine::Machine;
+use crate::machine::MachineUpdate;
+use crate::machine::NewMachine;
+use crate::settings::Settings;
+use crate::thrust::entry_pitch;
+use crate::thrust::new_handoff;
+use crate::thrust::starts_handoff;
+use machines::InputRefusal;
+use machines::ModeRefusal;
+use machines::answer::TransitionAnswer;
+use machines::answer::TransitionStep;
+use machines::deceleration::BackDeceleration;
+use machines::handoff::ThrustHandoff;
+ghost use mathlib.Core.Path.{_≡_};
+ghost use Rattle.machines.specs.declared.answer.TransitionAnswer.the-variants as moved;
+ghost use Rattle.joined.specs.Joined.{initial, newOf, answered, refusedBy, steppedHandoff, stepped, steppedBy, stepOf, primeOf, cutIf, cutOf, setOf, callOf, EntrySays};
+
+// The state. What it holds is nobody else's to write.
+pub struct Joined {
+    machine: Machine,
+    handoff: ThrustHandoff,
+    // the pitch of the back transition
+    deceleration: BackDeceleration,
+    // the last step's thrust
+    thrust: f32,
+}
+
+// The state after a call, with its answer.
+pub struct JoinedUpdate {
+    pub joined: Joined,
+    pub answer: Answer,
+}
+
+// A new joined machine, or why there is none.
+pub enum NewJoined {
+    Refused(InputRefusal),
+    Joined(Joined),
+}
+
+impl Joined {
+    // A joined machine of an airframe with these settings, or refusal 3 with the field.
+    pub fn new(airframe: Airframe, settings: Settings) -> NewJoined
+        ensures { λ r. ⌜ r ≡ newOf airframe settings ⌝ }
+    {
+        let made = airframe.machine(settings);
+        match made {
+            NewMachine::Machine(machine) => NewJoined::Joined(Joined::initial(machine)),
+            NewMachine::Refused(why) => NewJoined::Refused(why),
+        }
+    }
+
+    // The machine with a new handoff, pitch 0 and thrust 0.
+    fn initial(machine: Machine) -> Joined
+        ensures { λ r. ⌜ r ≡ initial machine ⌝ }
+    {
+        let handoff = new_handoff(machine.handoff_s());
+        let deceleration = BackDeceleration::new();
+        Joined {
+            machine,
+            handoff,
+            deceleration,
+            thrust: 0.0,
+        }
+    }
+
+    // The state with the answer that shows it.
+    fn answered(self, step: TransitionStep) -> JoinedUpdate
+        ensures { λ r. ⌜ r ≡ answered self step ⌝ }
+    {
+        let mode = step.mode;
+        let output = step.output;
+        let report = step.refusal;
+        JoinedUpdate {
+            joined: self,
+            answer: Answer::Line(Line {
+                mode,
+                output,
+                handoff: step.handoff,
+                report,
+                thrust: self.thrust,
+                pitch_rad: self.deceleration.pitch_rad,
+            }),
+        }
+    }
+
+    // The state as it was.
+    fn refused(self, why: InputRefusal) -> JoinedUpdate
+        ensures { λ r. ⌜ r ≡ refusedBy self why ⌝ }
+    {
+        JoinedUpdate {
+            joined: self,
+            answer: Answer::Refused(why),
+        }
+    }
+
+    // The handoff of a step that moved the machine.
+    fn stepped_handoff(self, machine: Machine, step: TransitionStep) -> ThrustHandoff
+        ensures { λ r. ⌜ r ≡ steppedHandoff self machine step ⌝ }
+    {
+        let before = self.machine;
+        let after = step.mode;
+        if starts_handoff(before.mode(), after, step.handoff) {
+            machine.fresh_handoff(self.thrust)
+        } else {
+            self.handoff
+        }
+    }
+
+    // The state after a step that moved the machine: handoff, pitch and thrust.
+    fn stepped(self, machine: Machine, step: TransitionStep, input: StepInput) -> Joined
+        ensures { λ r. ⌜ r ≡ stepped self machine step input ⌝ }
+    {
+        let before = self.machine;
+        let after = step.mode;
+        let pitch = self.deceleration;
+        let pitch = entry_pitch(before.mode(), after, pitch);
+        let deceleration = machine.stepped_pitch(after, input, pitch);
+        let thrusted = machine.thrust(after, self.stepped_handoff(machine, step), input);
+        let handoff = thrusted.handoff;
+        Joined {
+            machine,
+            handoff,
+            deceleration,
+            thrust: thrusted.thrust,
+        }
+    }
+
+    // The update of a step, with what becomes of handoff, pitch and thrust.
+    fn stepped_by(self, update: MachineUpdate, input: StepInput) -> JoinedUpdate
+        ensures { λ r. ⌜ r ≡ steppedBy self update input ⌝ }
+    {
+        let machine = update.machine;
+        let answer = update.answer;
+        match answer {
+            TransitionAnswer::Step(step) => self.stepped(machine, step, input).answered(step),
+            TransitionAnswer::Refused(why) => self.refused(why),
+        }
+    }
+
+    // One step, with refusals 1 and 2. A transition that has rolled past the limit is cut short; else the machine is updated.
+    pub fn step(self, input: StepInput) -> JoinedUpdate
+        ensures { λ r. ⌜ r ≡ stepOf self input ⌝ }
+    {
+        let machine = self.machine;
+        let update = machine.update(input);
+        let answer = update.answer;
+        match answer {
+            TransitionAnswer::Step(_) => {
+                if machine.past_roll_limit(input.bank_rad) {
+                    self.stepped_by(machine.cut_short(ModeRefusal::RollError), input)
+                } else {
+                    self.stepped_by(update, input)
+                }
+            }
+            TransitionAnswer::Refused(why) => self.refused(why),
+        }
+    }
+
+    // Copter, with z as the height reference; a new handoff, pitch 0, thrust 0. No machine refuses a prime.
+    pub fn prime(self, z_m: f32) -> JoinedUpdate
+        ensures { λ r. ⌜ r ≡ primeOf self «z_m» ⌝ }
+    {
+        let machine = self.machine;
+        let update = machine.prime(z_m);
+        let machine = update.machine;
+        let answer = update.answer;
+        match answer {
+            TransitionAnswer::Step(step) => Joined::initial(machine).answered(step),
+            TransitionAnswer::Refused(why) => self.refused(why),
+        }
+    }
+
+    // The state after a cut that moved the machine.
+    fn cut_by(self, machine: Machine, step: TransitionStep) -> JoinedUpdate
+        ensures { λ r. ⌜ r ≡ cutIf (moved.Step step) self machine ⌝ }
+    {
+        if step.handoff {
+            let handoff = machine.fresh_handoff(self.thrust);
+            Joined {
+                machine,
+                handoff,
+                ..self
+            }.answered(step)
+        } else {
+            Joined { machine, ..self }.answered(step)
+        }
+    }
+
+    // Cuts a transition short. Thrust and pitch stay. No machine refuses a cut.
+    pub fn cut(self, why: ModeRefusal) -> JoinedUpdate
+        ensures { λ r. ⌜ r ≡ cutOf self why ⌝ }
+    {
+        let machine = self.machine;
+        let update = machine.cut_short(why);
+        let machine = update.machine;
+        let answer = update.answer;
+        match answer {
+            TransitionAnswer::Step(step) => self.cut_by(machine, step),
+            TransitionAnswer::Refused(refusal) => self.refused(refusal),
+        }
+    }
+
+    // New settings, or refusal 3 with the field; nothing else changes.
+    pub fn set(self, settings: Settings) -> JoinedUpdate
+        ensures { λ r. ⌜ r ≡ setOf self settings ⌝ }
+    {
+        let machine = self.machine;
+        let update = machine.set_config(settings);
+        let machine = update.machine;
+        let answer = update.answer;
+        match answer {
+            TransitionAnswer::Step(step) => Joined { machine, ..self }.answered(step),
+            TransitionAnswer::Refused(why) => self.refused(why),
+        }
+    }
+
+    // Any call.
+    pub fn call(self, call: Call) -> JoinedUpdate
+        ensures { λ r. ⌜ r ≡ callOf self call ⌝ }
+    {
+        match call {
+            Call::Prime(z_m) => self.prime(z_m),
+            Call::Step(input) => self.step(input),
+            Call::Cut(why) => self.cut(why),
+            Call::Settings(settings) => self.set(settings),
+        }
+    }
+
+    // The thin entry: one step of the state in the caller's own record.
+    pub fn enter(&mut self, input: StepInput) -> Answer
+        ensures { λ r. ⌜ EntrySays (now (self .entry)) input (now (self .exit)) r ⌝ }
+    {
+        let update = (*self).step(input);
+        *self = update.joined;
+        update.answer
+    }
+}

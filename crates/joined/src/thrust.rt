@@ -1,0 +1,197 @@
+// The handoff, the pitch and the thrust of a step (document 01, sections 5 and 6).
+use crate::call::StepInput;
+use crate::machine::Machine;
+use machines::FlightMode;
+use machines::deceleration::BackDeceleration;
+use machines::handoff::ThrustAnswer;
+use machines::handoff::ThrustHandoff;
+use machines::settings::TransitionConfig;
+use machines::sink::GuardedThrust;
+use machines::sink::guard_sink;
+use numbers::logic::both;
+use numbers::logic::either;
+ghost use mathlib.Core.Path.{_≡_};
+ghost use Rattle.machines.specs.Thrust.{newHandoff};
+ghost use Rattle.joined.specs.Machine.{isPlane, isToCopter};
+ghost use Rattle.joined.specs.Joined.{freshHandoff, startsHandoff, entryPitch, decelerated, steppedPitch, blended, backThrust, tailsitterThrust, thrustOf};
+
+// A step's thrust, and the handoff after it.
+pub(crate) struct Thrusted {
+    pub handoff: ThrustHandoff,
+    pub thrust: f32,
+}
+
+// Whether a mode is Plane.
+fn is_plane(mode: FlightMode) -> bool
+    ensures { λ r. ⌜ r ≡ isPlane mode ⌝ }
+{
+    match mode {
+        FlightMode::Plane => true,
+        FlightMode::Copter => false,
+        FlightMode::ToPlane => false,
+        FlightMode::ToCopter => false,
+    }
+}
+
+// Whether a mode is ToCopter.
+fn is_to_copter(mode: FlightMode) -> bool
+    ensures { λ r. ⌜ r ≡ isToCopter mode ⌝ }
+{
+    match mode {
+        FlightMode::ToCopter => true,
+        FlightMode::Copter => false,
+        FlightMode::Plane => false,
+        FlightMode::ToPlane => false,
+    }
+}
+
+// Whether a step starts a handoff: by its flag, or by entering Plane.
+pub(crate) fn starts_handoff(before: FlightMode, after: FlightMode, flag: bool) -> bool
+    ensures { λ r. ⌜ r ≡ startsHandoff before after flag ⌝ }
+{
+    either(flag, both(!is_plane(before), is_plane(after)))
+}
+
+// A new handoff, inactive. A machine's own duration is a limit, so there is nothing to refuse.
+pub(crate) fn new_handoff(duration_s: f32) -> ThrustHandoff
+    ensures { λ r. ⌜ r ≡ newHandoff «duration_s» ⌝ }
+{
+    ThrustHandoff {
+        duration_s,
+        from: 0.0,
+        elapsed_s: duration_s,
+    }
+}
+
+// Entering ToCopter sets the pitch 0.
+pub(crate) fn entry_pitch(
+    before: FlightMode,
+    after: FlightMode,
+    pitch: BackDeceleration,
+) -> BackDeceleration
+    ensures { λ r. ⌜ r ≡ entryPitch before after pitch ⌝ }
+{
+    if both(!is_to_copter(before), is_to_copter(after)) {
+        BackDeceleration::new()
+    } else {
+        pitch
+    }
+}
+
+// The demand, through the handoff. An accepted dt is never refused here.
+fn blend(handoff: ThrustHandoff, input: StepInput) -> Thrusted
+    ensures { λ r. ⌜ r ≡ blended handoff input ⌝ }
+{
+    let applied = handoff.apply(input.dt, input.demand);
+    let handoff = applied.handoff;
+    let answer = applied.answer;
+    match answer {
+        ThrustAnswer::Thrust(thrust) => Thrusted { handoff, thrust },
+        ThrustAnswer::Refused(_) => Thrusted {
+            handoff,
+            thrust: 0.0,
+        },
+    }
+}
+
+// The tailsitter's thrust in ToCopter: raised by the sink guard.
+fn back_thrust(config: TransitionConfig, climb_mps: f32) -> f32
+    ensures { λ r. ⌜ r ≡ backThrust config «climb_mps» ⌝ }
+{
+    let guarded = guard_sink(
+        config.back_thrust,
+        climb_mps,
+        config.back_sink_limit_mps,
+        config.back_sink_gain,
+    );
+    match guarded {
+        GuardedThrust::Thrust(thrust) => thrust,
+        GuardedThrust::None => config.back_thrust,
+    }
+}
+
+// The tailsitter's thrust, by the mode after the step.
+fn tailsitter_thrust(
+    after: FlightMode,
+    config: TransitionConfig,
+    handoff: ThrustHandoff,
+    input: StepInput,
+) -> Thrusted
+    ensures { λ r. ⌜ r ≡ tailsitterThrust after config handoff input ⌝ }
+{
+    match after {
+        FlightMode::ToPlane => Thrusted {
+            handoff,
+            thrust: config.forward_thrust,
+        },
+        FlightMode::ToCopter => Thrusted {
+            handoff,
+            thrust: back_thrust(config, input.state.velocity_mps.z),
+        },
+        FlightMode::Copter => blend(handoff, input),
+        FlightMode::Plane => blend(handoff, input),
+    }
+}
+
+impl Machine {
+    // A fresh handoff from the kept thrust.
+    pub(crate) fn fresh_handoff(self, kept: f32) -> ThrustHandoff
+        ensures { λ r. ⌜ r ≡ freshHandoff self kept ⌝ }
+    {
+        new_handoff(self.handoff_s()).start(kept)
+    }
+
+    // The quadplane's deceleration in ToCopter.
+    fn decelerated(self, input: StepInput, pitch: BackDeceleration) -> BackDeceleration
+        ensures { λ r. ⌜ r ≡ decelerated self input pitch ⌝ }
+    {
+        match self {
+            Machine::Tailsitter(_) => pitch,
+            Machine::Quadplane(m) => {
+                let state = input.state;
+                let config = m.config;
+                let update = pitch.pitch_rad(
+                    input.dt,
+                    state,
+                    config.back_decel_mps2,
+                    config.back_decel_i,
+                );
+                update.deceleration
+            }
+        }
+    }
+
+    // The pitch after a step.
+    pub(crate) fn stepped_pitch(
+        self,
+        after: FlightMode,
+        input: StepInput,
+        pitch: BackDeceleration,
+    ) -> BackDeceleration
+        ensures { λ r. ⌜ r ≡ steppedPitch after self input pitch ⌝ }
+    {
+        if is_to_copter(after) {
+            self.decelerated(input, pitch)
+        } else {
+            pitch
+        }
+    }
+
+    // The thrust, by airframe and the mode after the step.
+    pub(crate) fn thrust(
+        self,
+        after: FlightMode,
+        handoff: ThrustHandoff,
+        input: StepInput,
+    ) -> Thrusted
+        ensures { λ r. ⌜ r ≡ thrustOf self after handoff input ⌝ }
+    {
+        match self {
+            Machine::Tailsitter(m) => {
+                let config = m.config;
+                tailsitter_thrust(after, config, handoff, input)
+            }
+            Machine::Quadplane(_) => blend(handoff, input),
+        }
+    }
+}

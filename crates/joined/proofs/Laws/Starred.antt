@@ -216,6 +216,28 @@ defaults airframe.Quadplane = record {
   n17 = zero32;
 }
 
+-- settings with other numbers: f is told a number's place, from 1, and the number
+abbrev pub changed : (ℕ → Float → Float) → Settings → Settings
+changed f s = record {
+  n1 = f 1 (s .n1);
+  n2 = f 2 (s .n2);
+  n3 = f 3 (s .n3);
+  n4 = f 4 (s .n4);
+  n5 = f 5 (s .n5);
+  n6 = f 6 (s .n6);
+  n7 = f 7 (s .n7);
+  n8 = f 8 (s .n8);
+  n9 = f 9 (s .n9);
+  n10 = f 10 (s .n10);
+  n11 = f 11 (s .n11);
+  n12 = f 12 (s .n12);
+  n13 = f 13 (s .n13);
+  n14 = f 14 (s .n14);
+  n15 = f 15 (s .n15);
+  n16 = f 16 (s .n16);
+  n17 = f 17 (s .n17);
+}
+
 -- from a new machine with these settings; the answers in brief
 abbrev pub flight : Airframe → List Call → List Brief
 flight a calls = briefs (shownFrom (newOf a (defaults a)) calls)

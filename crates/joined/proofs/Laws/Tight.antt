@@ -1,13 +1,13 @@
 -- Flights that meet the bounds on k of demand 3, at timeouts and a ramp of 1/1024 s: k is 1024 × timeout in both transitions of the tailsitter and in ToCopter of the quadplane, and in
 -- its ToPlane the whole number below 1024 × (timeout + lift_ramp_s). So k ≤ 1024 × timeout − 1 does not hold. By working out the definitions. Assumes nothing.
 use mathlib.Core.Path.{_≡_, refl}
-use mathlib.Core.Bool.{false}
+use mathlib.Core.Bool.{false, _||_}
 use mathlib.Core.List.{List, [], _∷_, _++_}
 use Prim.Native.Nat.{ℕ, _+_, _*_}
-use lib.Dec.{T}
+use lib.Dec.{T, eqb}
 use lib.Ieee.{ofBits, add, sub, mul, div, lt, le, eq, neg, isNan}
 use lib.Ieee.Positive.{num, den}
-use Rattle.numbers.specs.Numbers.{zero32, one32}
+use Rattle.numbers.specs.Numbers.{if_then_else_, zero32, one32}
 use Rattle.numbers.specs.Root.{rootOf}
 use Rattle.machines.specs.declared.FlightMode.{FlightMode}
 use Rattle.machines.specs.declared.FlightMode.the-variants as mode
@@ -22,7 +22,7 @@ use Rattle.joined.specs.declared.joined.NewJoined.the-variants as made
 use Rattle.joined.specs.Machine.{modeIs}
 use Rattle.joined.specs.Joined.{newOf}
 use Rattle.joined.specs.List.{after, modeAt, isAcceptedStep, EachCall, count, tick32, atLeastTick, KeepsSettings}
-use Rattle.joined.proofs.Laws.Starred.{five, twelve, half, ten, defaults, step, level, prime, plane}
+use Rattle.joined.proofs.Laws.Starred.{five, twelve, half, ten, defaults, step, level, prime, plane, changed}
 
 -- after the calls `before` a call enters the mode `at`, and the calls since, with the premises of demand 3's bound, are still in it: k accepted steps
 pub record StillIn (a : Airframe) (s : Settings) (before : List Call) (entering : Call) (since : List Call) (at : FlightMode) (k : ℕ) : Type 0 where
@@ -37,47 +37,11 @@ pub record StillIn (a : Airframe) (s : Settings) (before : List Call) (entering 
 
 -- the Rust's defaults with the tailsitter's timeout at 1/1024 s
 abbrev short-tailsitter : Settings
-short-tailsitter = let d = defaults airframe.Tailsitter in record {
-  n1 = d .n1;
-  n2 = d .n2;
-  n3 = d .n3;
-  n4 = d .n4;
-  n5 = d .n5;
-  n6 = d .n6;
-  n7 = tick32;
-  n8 = d .n8;
-  n9 = d .n9;
-  n10 = d .n10;
-  n11 = d .n11;
-  n12 = d .n12;
-  n13 = d .n13;
-  n14 = d .n14;
-  n15 = d .n15;
-  n16 = d .n16;
-  n17 = d .n17;
-}
+short-tailsitter = changed (λ i x. if eqb i 7 then tick32 else x) (defaults airframe.Tailsitter)
 
 -- and with the quadplane's ramp, timeout and back timeout there
 abbrev short-quadplane : Settings
-short-quadplane = let d = defaults airframe.Quadplane in record {
-  n1 = d .n1;
-  n2 = tick32;
-  n3 = tick32;
-  n4 = d .n4;
-  n5 = d .n5;
-  n6 = d .n6;
-  n7 = d .n7;
-  n8 = tick32;
-  n9 = d .n9;
-  n10 = d .n10;
-  n11 = d .n11;
-  n12 = d .n12;
-  n13 = d .n13;
-  n14 = d .n14;
-  n15 = d .n15;
-  n16 = zero32;
-  n17 = zero32;
-}
+short-quadplane = changed (λ i x. if eqb i 2 || eqb i 3 || eqb i 8 then tick32 else x) (defaults airframe.Quadplane)
 
 -- a step of 1/1024 s with a Plane request at an airspeed of 12, and one with a Copter request at a forward speed of 10
 abbrev fast : Call

@@ -5,8 +5,9 @@ use mathlib.Core.Bool.{Bool, true, false, _||_}
 use mathlib.Core.List.{List, [], _∷_}
 use mathlib.Core.Option.{Option, some, none}
 use Prim.Native.Nat.{ℕ}
+use lib.Dec.{eqb}
 use lib.Ieee.{Float, ofBits, toBits, add, sub, mul, div, lt, le, eq, neg, isNan}
-use Rattle.numbers.specs.Numbers.{_⊕_, floatOf, zero32, one32, threeTenths32, clampOf}
+use Rattle.numbers.specs.Numbers.{if_then_else_, _⊕_, floatOf, zero32, one32, threeTenths32, clampOf}
 use Rattle.numbers.specs.Ranges.{positive}
 use Rattle.numbers.specs.Root.{rootOf}
 use Rattle.machines.specs.declared.FlightMode.{FlightMode}
@@ -40,7 +41,7 @@ use Rattle.joined.specs.Shown.{Shown, refused, line, shownOf}
 use Rattle.joined.specs.List.{modeAt, abandonmentAt, clockAt}
 use Rattle.joined.proofs.Laws.Effects.{foundIn, badTilt}
 use Rattle.joined.proofs.Laws.Starred.{half, four, five, ten, twelve, fifteen, above-fifteen}
-use Rattle.joined.proofs.Laws.Starred.{C, P, F, B, brief, briefs, shownFrom, flight, defaults, step, level, prime, plane, settings, flying}
+use Rattle.joined.proofs.Laws.Starred.{C, P, F, B, brief, briefs, shownFrom, flight, defaults, changed, step, level, prime, plane, settings, flying}
 use Rattle.joined.proofs.Laws.Starred.{Accepted, Forward, Underway, joined, row, times-out}
 
 abbrev pub minus-zero : Float
@@ -70,25 +71,7 @@ thrusts (x ∷ xs) = thrustIn x ∷ thrusts xs
 
 -- the example's settings, with a floor of 5
 abbrev pub floored : Settings
-floored = record {
-  n1 = settings .n1;
-  n2 = settings .n2;
-  n3 = settings .n3;
-  n4 = settings .n4;
-  n5 = five;
-  n6 = settings .n6;
-  n7 = settings .n7;
-  n8 = settings .n8;
-  n9 = settings .n9;
-  n10 = settings .n10;
-  n11 = settings .n11;
-  n12 = settings .n12;
-  n13 = settings .n13;
-  n14 = settings .n14;
-  n15 = settings .n15;
-  n16 = zero32;
-  n17 = zero32;
-}
+floored = changed (λ i x. if eqb i 5 then five else x) settings
 
 -- below the floor at speed 10
 abbrev pub low : FlightRegime → Call

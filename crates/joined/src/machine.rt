@@ -23,7 +23,7 @@ pub enum Airframe {
 }
 
 // Either machine, with its own settings.
-pub(crate) enum Machine {
+pub enum Machine {
     Tailsitter(Transition),
     Quadplane(LiftTransition),
 }

@@ -1,0 +1,36 @@
+-- `card::record::record_at` meets its contract. Assumes nothing.
+use mathlib.Core.Path.{sym, _∙_}
+use borrow.Author.Needs.{needs}
+use borrow.Author.Tests.{ne-eqb}
+use Rattle.card.specs.Format.{recordAt}
+use Rattle.card.proofs.record.record_at.Statement.{statement}
+use Rattle.card.proofs.record.record_at.Tie as tie
+
+returns : tie.Need-returns
+unfolding recordAt
+returns c = simp (c .prime-at .ensures, sym (c .before .before .kind-at .ensures) ∙ c .before .match .keys1)
+
+returns-2 : tie.Need-returns-2
+unfolding recordAt
+returns-2 c = simp (c .step-at .ensures, sym (c .before .before .kind-at .ensures) ∙ c .before .match .keys2)
+
+returns-3 : tie.Need-returns-3
+unfolding recordAt
+returns-3 c = simp (c .cut-for .ensures, c .before .option-at .ensures, sym (c .before .before .before .kind-at .ensures) ∙ c .before .before .match .keys3)
+
+returns-4 : tie.Need-returns-4
+unfolding recordAt
+returns-4 c = simp (c .new-settings-at .ensures, sym (c .before .before .kind-at .ensures) ∙ c .before .match .keys4)
+
+returns-5 : tie.Need-returns-5
+unfolding recordAt
+returns-5 c =
+    let rest = c .match .rest in
+    simp (← (c .before .kind-at .ensures), ne-eqb _ _ (rest .1), ne-eqb _ _ (rest .0 .1), ne-eqb _ _ (rest .0 .0 .1), ne-eqb _ _ (rest .0 .0 .0 .1))
+
+pub record-at-spec : {M : Type 1} → statement M
+record-at-spec =
+    tie.close
+    (tie.spec
+    (λ c κs. search needs) (λ c κs. search needs) (λ c κs. search needs) (λ c κs. search needs) (λ c κs. search needs)
+    (λ c κs. search needs) returns returns-2 returns-3 returns-4 returns-5)

@@ -1,0 +1,23 @@
+-- Document 01, section 9: the numbers of a card's refusals. Definitions only. Assumes nothing.
+use Prim.Native.Nat.{ℕ}
+use Rattle.card.specs.declared.refusal.CardRefusal.{CardRefusal}
+use Rattle.card.specs.declared.refusal.CardRefusal.the-variants.{Setting, Length, Marks, NextIndex, PassedRecord, KindOrOption}
+
+-- "3 setting, with field; .. 6 card length not 80 to 64,000 bytes in whole records; 7 marks shorter than the record count; 8 next index past the card; 9 exactly when a record already
+-- passed is met; 10 kind or option"
+abbrev pub cardRefusalOf : CardRefusal → ℕ
+cardRefusalOf (Setting field) = 3
+cardRefusalOf Length = 6
+cardRefusalOf Marks = 7
+cardRefusalOf NextIndex = 8
+cardRefusalOf PassedRecord = 9
+cardRefusalOf KindOrOption = 10
+
+-- the field of a 3, and 0 where there is none
+abbrev pub cardFieldOf : CardRefusal → ℕ
+cardFieldOf (Setting field) = field
+cardFieldOf Length = 0
+cardFieldOf Marks = 0
+cardFieldOf NextIndex = 0
+cardFieldOf PassedRecord = 0
+cardFieldOf KindOrOption = 0

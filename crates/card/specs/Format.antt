@@ -1,0 +1,139 @@
+-- Document 01, section 7: what the records of a card say. Definitions only. Assumes nothing.
+use Prim.Native.Nat.{ℕ, _+_, _*_, _%_}
+use mathlib.Core.Bool.{Bool, true, false}
+use mathlib.Core.List.{List}
+use lib.Ieee.{Float}
+use lib.Dec.{eqb, leb}
+use Rattle.numbers.specs.Numbers.{if_then_else_}
+use Rattle.machines.specs.declared.FlightRegime.{FlightRegime}
+use Rattle.machines.specs.declared.FlightRegime.the-variants as regime
+use Rattle.machines.specs.declared.Airspeed.{Airspeed}
+use Rattle.machines.specs.declared.Airspeed.the-variants as airspeed
+use Rattle.machines.specs.declared.VehicleState.{VehicleState}
+use Rattle.machines.specs.declared.ModeRefusal.the-variants as reason
+use Rattle.machines.specs.Refusals.{fieldOf}
+use Rattle.joined.specs.declared.settings.Settings.{Settings}
+use Rattle.joined.specs.declared.call.StepInput.{StepInput}
+use Rattle.joined.specs.declared.call.Call.the-variants as call
+use Rattle.joined.specs.declared.machine.Airframe.the-variants as airframe
+use Rattle.joined.specs.declared.joined.NewJoined.{NewJoined}
+use Rattle.joined.specs.declared.joined.NewJoined.the-variants as made
+use Rattle.joined.specs.Joined.{newOf}
+use Rattle.card.specs.Bytes.{byteAt, u16At, floatAt}
+use Rattle.card.specs.declared.refusal.CardRefusal.the-variants as refusal
+use Rattle.card.specs.declared.record.Record.{Record}
+use Rattle.card.specs.declared.record.Record.the-variants as says
+use Rattle.card.specs.declared.record.Header.{Header}
+use Rattle.card.specs.declared.record.Header.the-variants as header
+
+-- ---- of record i: "records of 80 bytes, little-endian: byte 0 kind, byte 1 option, bytes 2-3 next index (u16, 0 ends the chain), then numbers 1 to 19, unused ones ignored"
+abbrev pub kindAt : List ℕ → ℕ → ℕ
+kindAt card i = byteAt card (80 * i)
+
+abbrev pub optionAt : List ℕ → ℕ → ℕ
+optionAt card i = byteAt card (80 * i + 1)
+
+abbrev pub nextAt : List ℕ → ℕ → ℕ
+nextAt card i = u16At card (80 * i + 2)
+
+-- number k, from 1
+abbrev pub numberAt : List ℕ → ℕ → ℕ → Float
+numberAt card i k = floatAt card (80 * i + 4 * k)
+
+-- ---- "numbers are settings"
+unfoldable pub settingsAt : List ℕ → ℕ → Settings
+settingsAt card i = record {
+  n1 = numberAt card i 1;
+  n2 = numberAt card i 2;
+  n3 = numberAt card i 3;
+  n4 = numberAt card i 4;
+  n5 = numberAt card i 5;
+  n6 = numberAt card i 6;
+  n7 = numberAt card i 7;
+  n8 = numberAt card i 8;
+  n9 = numberAt card i 9;
+  n10 = numberAt card i 10;
+  n11 = numberAt card i 11;
+  n12 = numberAt card i 12;
+  n13 = numberAt card i 13;
+  n14 = numberAt card i 14;
+  n15 = numberAt card i 15;
+  n16 = numberAt card i 16;
+  n17 = numberAt card i 17;
+}
+
+-- ---- "Step option: 0 Copter, 1 Plane, plus 2 if airspeed is present"
+abbrev pub requestedAt : List ℕ → ℕ → FlightRegime
+requestedAt card i = if eqb (optionAt card i % 2) 1 then regime.Plane else regime.Copter
+
+abbrev pub airspeedAt : List ℕ → ℕ → Airspeed
+airspeedAt card i = if leb 2 (optionAt card i) then airspeed.Present (numberAt card i 12) else airspeed.Absent
+
+-- "Step numbers: 1 dt, 2 z, 3-5 velocity, 6-7 acceleration, 8-11 w x y z, 12 airspeed, 13 entry tilt, 14 bank, 15 demand"
+unfoldable pub vehicleAt : List ℕ → ℕ → VehicleState
+vehicleAt card i = record {
+  «z_m» = numberAt card i 2;
+  «velocity_mps» = record { x = numberAt card i 3; y = numberAt card i 4; z = numberAt card i 5 };
+  «acceleration_mps2» = record { x = numberAt card i 6; y = numberAt card i 7 };
+  attitude = record { w = numberAt card i 8; x = numberAt card i 9; y = numberAt card i 10; z = numberAt card i 11 };
+  airspeed = airspeedAt card i;
+}
+
+unfoldable pub stepInputAt : List ℕ → ℕ → StepInput
+stepInputAt card i = record {
+  dt = numberAt card i 1;
+  requested = requestedAt card i;
+  state = vehicleAt card i;
+  «entry_tilt_rad» = numberAt card i 13;
+  «bank_rad» = numberAt card i 14;
+  demand = numberAt card i 15;
+}
+
+-- ---- a record after the header, by its option: "1 prime (2 = z); 2 step; 3 cut, option 11 to 16; 4 settings. .. Other options .. are 0."
+abbrev pub primeAt : List ℕ → ℕ → Record
+primeAt card i = if eqb (optionAt card i) 0 then says.Known (call.Prime (numberAt card i 2)) else says.Unknown
+
+abbrev pub stepAt : List ℕ → ℕ → Record
+stepAt card i = if leb (optionAt card i) 3 then says.Known (call.Step (stepInputAt card i)) else says.Unknown
+
+-- the option is the reason's number (section 10)
+abbrev pub cutFor : ℕ → Record
+cutFor option =
+    if eqb option 11 then says.Known (call.Cut reason.Unsupported)
+    else if eqb option 12 then says.Known (call.Cut reason.OnGround)
+    else if eqb option 13 then says.Known (call.Cut reason.BelowMinAltitude)
+    else if eqb option 14 then says.Known (call.Cut reason.TransitionTimeout)
+    else if eqb option 15 then says.Known (call.Cut reason.RollError)
+    else if eqb option 16 then says.Known (call.Cut reason.BelowPlaneMinAltitude)
+    else says.Unknown
+
+abbrev pub newSettingsAt : List ℕ → ℕ → Record
+newSettingsAt card i = if eqb (optionAt card i) 0 then says.Known (call.Settings (settingsAt card i)) else says.Unknown
+
+-- by its kind
+unfoldable pub recordAt : List ℕ → ℕ → Record
+recordAt card i =
+    if eqb (kindAt card i) 1 then primeAt card i
+    else if eqb (kindAt card i) 2 then stepAt card i
+    else if eqb (kindAt card i) 3 then cutFor (optionAt card i)
+    else if eqb (kindAt card i) 4 then newSettingsAt card i
+    else says.Unknown
+
+-- "10 kind or option" spares a record
+abbrev pub isKnown : Record → Bool
+isKnown (says.Known c) = true
+isKnown says.Unknown = false
+
+-- ---- the header, by the making of its machine; a making that is refused is refused with 3 in every case (law `always-three`, Headers.antt)
+abbrev pub headerFor : NewJoined → Header
+headerFor (made.Joined j) = header.Joined j
+headerFor (made.Refused why) = header.Refused (refusal.Setting (fieldOf why))
+
+-- "Record 0 is the header: kind 5 tailsitter, 6 quadplane; numbers are settings. .. Other options and the header's are 0." Tested in the order "header 10, header 3"
+unfoldable pub headerOf : List ℕ → Header
+headerOf card =
+    if eqb (optionAt card 0) 0 then
+    (if eqb (kindAt card 0) 5 then headerFor (newOf airframe.Tailsitter (settingsAt card 0))
+    else if eqb (kindAt card 0) 6 then headerFor (newOf airframe.Quadplane (settingsAt card 0))
+    else header.Refused refusal.KindOrOption)
+    else header.Refused refusal.KindOrOption

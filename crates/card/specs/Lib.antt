@@ -1,0 +1,6 @@
+pub mod Bytes
+pub mod CardRefusals
+pub mod Format
+pub mod Chain
+pub mod Text
+pub mod Transcript

@@ -66,7 +66,7 @@ pub record Run : Type 0 where
   pub out : List ℕ
 
 -- With fewer than 32,000 bytes of room nothing is touched. Else the transcript stands at the start of the buffer, and the rest of it stays; there is room for any transcript
--- (law `transcript-fits`, Room.antt): at most 799 lines of 40 bytes and an end of 8
+-- (law `transcript-fits`, Room.antt): at most 799 lines of at most 40 bytes and an end of at most 8
 abbrev pub runOf : List ℕ → List ℕ → List ℕ → Run
 runOf card m d =
     if leb 32000 (length d) then

@@ -79,7 +79,7 @@ fn check_records(card: &[u8], marks: &mut [u8], n: usize) -> Checked
     }
 }
 
-// Whether a card can be run, and in `marks` which of its records it passes.
+// Whether a card can be run, and in `marks` which of its records were passed.
 pub fn check(card: &[u8], marks: &mut [u8]) -> Checked
     ensures { λ r. ⌜ Leaves (outcomeOf (now (card .entry)) (now (marks .entry))) r (now (marks .exit)) ⌝ }
 {

@@ -22,7 +22,7 @@ ghost use Rattle.card.specs.Text.{endLine, Written};
 ghost use Rattle.card.specs.Transcript.{callsOf, runLines, transcriptBy, runOf, Runs, Fits};
 
 // How many bytes a run wrote; or that the buffer has fewer than 32,000, and nothing was touched.
-// A transcript has at most 799 lines of 40 bytes and an end of 8.
+// A transcript has at most 799 lines of at most 40 bytes and an end of at most 8.
 pub enum Ran {
     Wrote(usize),
     NoRoom,

@@ -22,7 +22,7 @@ fn next_length() -> isize {
     (wide(b[0]) + wide(b[1]) * 256 + wide(b[2]) * 65536 + wide(b[3]) * 16777216) as isize
 }
 
-// The number of bytes that a run wrote: never more than 32,000, and the cast asks for a test.
+// The number of bytes that a run wrote, at most 32,000.
 fn written(ran: Ran) -> isize {
     match ran {
         Ran::Wrote(n) => { if n <= 32_000 { n as isize } else { 32_000 } }
@@ -31,7 +31,7 @@ fn written(ran: Ran) -> isize {
 }
 
 // Runs a card and writes its transcript.
-fn fly(card: &[u8]) {
+fn run_card(card: &[u8]) {
     let mut marks = [0u8; 800];
     let mut out = [0u8; 32_000];
     let ran = run(card, &mut marks, &mut out);
@@ -56,7 +56,7 @@ fn take_card() -> bool {
         return false;
     }
     let n = io::count(length, &card);
-    fly(&card[..n]);
+    run_card(&card[..n]);
     true
 }
 

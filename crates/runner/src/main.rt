@@ -1,15 +1,38 @@
 // Reads a card from standard input, and writes the transcript of its run to standard output (document 01, section 7).
-// An input that cannot be read to its end is not run, and what cannot be written is said on standard error.
+// An input that cannot be read to its end is not run. That, and an output that cannot be written, is said on standard error.
 use card::run::Ran;
 use card::run::run;
 use libc::STDIN_FILENO;
 use libc::STDOUT_FILENO;
+ghost use Rattle.io.specs.Counts.{Counts};
 ghost use Rattle.card.specs.Transcript.{Fits};
 
-// Whether nothing more can be read because the input has ended.
-fn has_ended() -> bool {
-    let mut more = [0u8; 1];
-    libc::read(STDIN_FILENO, &mut more) == 0
+// How many bytes were read before the input ended or the buffer was full, and whether a read failed.
+struct Input {
+    length: usize,
+    failed: bool,
+}
+
+// Reads until `card` is full, the input ends or a read fails.
+fn read_card(card: &mut [u8]) -> Input
+    ensures { λ r. ⌜ Counts (r .length) (now (card .exit)) ⌝ }
+{
+    let mut done = 0;
+    while done < card.len() {
+        let got = libc::read(STDIN_FILENO, &mut card[done..]);
+        let n = io::count(got, &card[done..]);
+        if n == 0 {
+            return Input {
+                length: done,
+                failed: got < 0,
+            };
+        }
+        done += n;
+    }
+    Input {
+        length: done,
+        failed: false,
+    }
 }
 
 // Writes a text, or says why it cannot.
@@ -25,21 +48,26 @@ fn print(out: &[u8], ran: Ran)
 {
     match ran {
         Ran::Wrote(n) => put(&out[..n]),
-        // not met: `main` has the room
+        // not met: `run_card` has the room
         Ran::NoRoom => {}
     }
+}
+
+// Runs a card and writes its transcript.
+fn run_card(card: &[u8]) {
+    let mut marks = [0u8; 800];
+    let mut out = [0u8; 32_000];
+    let ran = run(card, &mut marks, &mut out);
+    print(&out, ran);
 }
 
 // One byte more than the longest card is asked for, so that a longer one is refused.
 fn main() {
     let mut card = [0u8; 64_001];
-    let mut marks = [0u8; 800];
-    let mut out = [0u8; 32_000];
-    let n = io::read_full(STDIN_FILENO, &mut card);
-    if n < 64_001 && !has_ended() {
+    let input = read_card(&mut card);
+    if input.failed {
         os::fail(b"runner: standard input");
         return;
     }
-    let ran = run(&card[..n], &mut marks, &mut out);
-    print(&out, ran);
+    run_card(&card[..input.length]);
 }

@@ -1,4 +1,5 @@
--- What holds of every card that is not refused: its transcript is the lines of its calls' answers and the count, and the list theorem of the joined machine holds of its calls.
+-- What holds of every card that is not refused: its transcript is the lines of its calls' answers and the count, and what the list theorem of the joined machine claims (`Claim`) holds of
+-- its calls.
 -- Assumes nothing.
 use mathlib.Core.Path.{_≡_, sym, ap, _∙_}
 use mathlib.Core.List.{List, _++_}
@@ -17,7 +18,7 @@ use Rattle.card.specs.declared.record.Header.the-variants as header
 use Rattle.card.specs.declared.chain.Checked.the-variants as checked
 use Rattle.card.proofs.Laws.SecondWalk.{found, walk-count}
 use Rattle.card.proofs.Laws.Headers.{made-by}
-use Rattle.card.proofs.Laws.Binary32.{settings, calls}
+use Rattle.card.proofs.Laws.Binary32.{settings-binary32, calls-binary32}
 
 -- of a card whose records passed are `passed`, the last one first
 pub record Accepted (card m passed : List ℕ) : Type 0 where
@@ -39,7 +40,7 @@ accepted card m count e =
       airframe = new .airframe;
       machine = j;
       header = f .header-joined;
-      list-claim = claim (new .airframe) (settingsAt card 0) (settings card 0) j (new .new) (callsOf card passed) (calls card passed);
+      list-claim = claim (new .airframe) (settingsAt card 0) (settings-binary32 card 0) j (new .new) (callsOf card passed) (calls-binary32 card passed);
       transcript =
           ap (transcriptBy card (headerOf card)) e ∙ ap (λ (h : Header). transcriptBy card h (checked.Walk count)) (f .header-joined)
           ∙ ap (λ (n : ℕ). linesOf passed (answersOf j (callsOf card passed)) ++ endLine n) (sym (walk-count card count (f .walk)));

@@ -18,9 +18,9 @@ use Rattle.card.specs.declared.record.Record.the-variants as says
 number : (card : List ℕ) (i k : ℕ) → IsBinary32 (numberAt card i k)
 number card i k = ofBits-fits binary32 (u32At card (80 * i + 4 * k))
 
-pub settings : (card : List ℕ) (i : ℕ) → Binary32Settings (settingsAt card i)
+pub settings-binary32 : (card : List ℕ) (i : ℕ) → Binary32Settings (settingsAt card i)
 unfolding settingsAt
-settings card i = let n = number card i in (n 1, n 2, n 3, n 4, n 5, n 6, n 7, n 8, n 9, n 10, n 11, n 12, n 13, n 14, n 15, n 16, n 17)
+settings-binary32 card i = let n = number card i in (n 1, n 2, n 3, n 4, n 5, n 6, n 7, n 8, n 9, n 10, n 11, n 12, n 13, n 14, n 15, n 16, n 17)
 
 speed : (card : List ℕ) (i : ℕ) → Binary32Airspeed (airspeedAt card i)
 speed card i = go (leb 2 (optionAt card i))
@@ -67,13 +67,13 @@ at-record card i =
     either (eqb (kindAt card i) 1) (either (eqb (optionAt card i) 0) (known (number card i 2)) unknown)
     (either (eqb (kindAt card i) 2) (either (leb (optionAt card i) 3) (known (step card i)) unknown)
     (either (eqb (kindAt card i) 3) (cut (optionAt card i))
-    (either (eqb (kindAt card i) 4) (either (eqb (optionAt card i) 0) (known (settings card i)) unknown)
+    (either (eqb (kindAt card i) 4) (either (eqb (optionAt card i) 0) (known (settings-binary32 card i)) unknown)
     unknown)))
 
 with-call : (r : Record) (cs : List Call) → ByRecord r → Binary32Calls cs → Binary32Calls (withCall r cs)
 with-call (says.Known c) cs p q = (p, q)
 with-call says.Unknown cs p q = q
 
-pub calls : (card passed : List ℕ) → Binary32Calls (callsOf card passed)
-calls card [] = tt
-calls card (i ∷ passed) = with-call (recordAt card i) (callsOf card passed) (at-record card i .numbers) (calls card passed)
+pub calls-binary32 : (card passed : List ℕ) → Binary32Calls (callsOf card passed)
+calls-binary32 card [] = tt
+calls-binary32 card (i ∷ passed) = with-call (recordAt card i) (callsOf card passed) (at-record card i .numbers) (calls-binary32 card passed)

@@ -67,7 +67,7 @@ fn headers(bytes: &[u8]) -> Vec<Item> {
     vec![
         ("header kind", !matches!(kind, 5 | 6)),
         ("header kind of another record", (1..5).contains(&kind)),
-        ("header option", matches!(kind, 5 | 6) && option != 0),
+        ("header option, with bad settings", matches!(kind, 5 | 6) && option != 0 && settings),
         ("header kind, with bad settings", !matches!(kind, 5 | 6) && settings),
     ]
 }

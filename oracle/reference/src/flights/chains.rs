@@ -122,7 +122,10 @@ fn bad_first(mut flight: Flight, shape: u64) -> Vec<u8> {
     match shape {
         4 => flight.records[0][0] = random.pick(&[1, 2, 3, 4]),
         5 => flight.records[0][0] = random.pick(&[0, 7, 8, 255]),
-        6 => flight.records[0][1] = random.pick(&[1, 2, 11, 255]),
+        6 => {
+            flight.records[0][1] = random.pick(&[1, 2, 11, 255]);
+            flight.records[0][4..8].copy_from_slice(&f32::NAN.to_le_bytes());
+        }
         7 => {
             flight.records[0][0] = random.pick(&[0, 4, 7]);
             flight.records[0][4..8].copy_from_slice(&f32::NAN.to_le_bytes());

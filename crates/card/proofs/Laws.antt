@@ -1,4 +1,5 @@
 -- What holds of the definitions themselves, apart from the proofs of functions.
+pub mod Cases
 pub mod Marks
 pub mod Walk
 pub mod Written

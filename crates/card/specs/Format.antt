@@ -1,14 +1,10 @@
 -- Document 01, section 7: what the records of a card say. Definitions only. Assumes nothing.
-use Prim.Native.Nat.{ℕ, _+_, _*_, _%_}
+use Prim.Native.Nat.{ℕ, _+_, _*_}
 use mathlib.Core.Bool.{Bool, true, false}
 use mathlib.Core.List.{List}
 use lib.Ieee.{Float}
 use lib.Dec.{eqb, leb}
 use Rattle.numbers.specs.Numbers.{if_then_else_}
-use Rattle.machines.specs.declared.FlightRegime.{FlightRegime}
-use Rattle.machines.specs.declared.FlightRegime.the-variants as regime
-use Rattle.machines.specs.declared.Airspeed.{Airspeed}
-use Rattle.machines.specs.declared.Airspeed.the-variants as airspeed
 use Rattle.machines.specs.declared.VehicleState.{VehicleState}
 use Rattle.machines.specs.declared.ModeRefusal.the-variants as reason
 use Rattle.machines.specs.Refusals.{fieldOf}
@@ -18,6 +14,7 @@ use Rattle.joined.specs.declared.call.Call.the-variants as call
 use Rattle.joined.specs.declared.machine.Airframe.the-variants as airframe
 use Rattle.joined.specs.declared.joined.NewJoined.{NewJoined}
 use Rattle.joined.specs.declared.joined.NewJoined.the-variants as made
+use Rattle.joined.specs.Calls.{settingsBy, vehicleBy, stepInputBy}
 use Rattle.joined.specs.Joined.{newOf}
 use Rattle.card.specs.Bytes.{byteAt, u16At, floatAt}
 use Rattle.card.specs.declared.refusal.CardRefusal.the-variants as refusal
@@ -40,54 +37,15 @@ nextAt card i = u16At card (80 * i + 2)
 abbrev pub numberAt : List ℕ → ℕ → ℕ → Float
 numberAt card i k = floatAt card (80 * i + 4 * k)
 
--- ---- "numbers are settings"
-unfoldable pub settingsAt : List ℕ → ℕ → Settings
-settingsAt card i = record {
-  n1 = numberAt card i 1;
-  n2 = numberAt card i 2;
-  n3 = numberAt card i 3;
-  n4 = numberAt card i 4;
-  n5 = numberAt card i 5;
-  n6 = numberAt card i 6;
-  n7 = numberAt card i 7;
-  n8 = numberAt card i 8;
-  n9 = numberAt card i 9;
-  n10 = numberAt card i 10;
-  n11 = numberAt card i 11;
-  n12 = numberAt card i 12;
-  n13 = numberAt card i 13;
-  n14 = numberAt card i 14;
-  n15 = numberAt card i 15;
-  n16 = numberAt card i 16;
-  n17 = numberAt card i 17;
-}
+-- ---- the numbers of record i as settings, and as what a step is told
+abbrev pub settingsAt : List ℕ → ℕ → Settings
+settingsAt card i = settingsBy (numberAt card i)
 
--- ---- "Step option: 0 Copter, 1 Plane, plus 2 if airspeed is present"
-abbrev pub requestedAt : List ℕ → ℕ → FlightRegime
-requestedAt card i = if eqb (optionAt card i % 2) 1 then regime.Plane else regime.Copter
+abbrev pub vehicleAt : List ℕ → ℕ → VehicleState
+vehicleAt card i = vehicleBy (optionAt card i) (numberAt card i)
 
-abbrev pub airspeedAt : List ℕ → ℕ → Airspeed
-airspeedAt card i = if leb 2 (optionAt card i) then airspeed.Present (numberAt card i 12) else airspeed.Absent
-
--- "Step numbers: 1 dt, 2 z, 3-5 velocity, 6-7 acceleration, 8-11 w x y z, 12 airspeed, 13 entry tilt, 14 bank, 15 demand"
-unfoldable pub vehicleAt : List ℕ → ℕ → VehicleState
-vehicleAt card i = record {
-  «z_m» = numberAt card i 2;
-  «velocity_mps» = record { x = numberAt card i 3; y = numberAt card i 4; z = numberAt card i 5 };
-  «acceleration_mps2» = record { x = numberAt card i 6; y = numberAt card i 7 };
-  attitude = record { w = numberAt card i 8; x = numberAt card i 9; y = numberAt card i 10; z = numberAt card i 11 };
-  airspeed = airspeedAt card i;
-}
-
-unfoldable pub stepInputAt : List ℕ → ℕ → StepInput
-stepInputAt card i = record {
-  dt = numberAt card i 1;
-  requested = requestedAt card i;
-  state = vehicleAt card i;
-  «entry_tilt_rad» = numberAt card i 13;
-  «bank_rad» = numberAt card i 14;
-  demand = numberAt card i 15;
-}
+abbrev pub stepInputAt : List ℕ → ℕ → StepInput
+stepInputAt card i = stepInputBy (optionAt card i) (numberAt card i)
 
 -- ---- a record after the header, by its option: "1 prime (2 = z); 2 step; 3 cut, option 11 to 16; 4 settings. .. Other options .. are 0."
 abbrev pub primeAt : List ℕ → ℕ → Record

@@ -1,5 +1,6 @@
 // Numbers in bytes, little-endian.
 use numbers::bits::from_bits;
+use numbers::bits::from_le_bytes;
 ghost use mathlib.Core.Path.{_≡_};
 ghost use Prim.Native.Nat.{_+_, _≤_, _<_};
 ghost use lib.ListN.{length};
@@ -25,10 +26,7 @@ fn u32_at(bytes: &[u8], at: usize) -> u32
     requires { ⌜ at + 4 ≤ length (now bytes) ⌝ }
     ensures { λ r. ⌜ r ≡ u32At (now (bytes .entry)) at ⌝ }
 {
-    wide(bytes[at])
-        + wide(bytes[at + 1]) * 256
-        + wide(bytes[at + 2]) * 65536
-        + wide(bytes[at + 3]) * 16777216
+    from_le_bytes(bytes[at], bytes[at + 1], bytes[at + 2], bytes[at + 3])
 }
 
 // The binary32 number whose bits start at byte `at`, any NaN's as the NaN.

@@ -4,12 +4,12 @@ use crate::bytes::u16_at;
 use crate::refusal::CardRefusal;
 use joined::call::Call;
 use joined::call::StepInput;
+use joined::call::airspeed_by;
+use joined::call::requested_by;
 use joined::joined::Joined;
 use joined::joined::NewJoined;
 use joined::machine::Airframe;
 use joined::settings::Settings;
-use machines::Airspeed;
-use machines::FlightRegime;
 use machines::ModeRefusal;
 use machines::VehicleState;
 use numbers::vector::Quaternion;
@@ -18,8 +18,9 @@ use numbers::vector::Vec3;
 ghost use mathlib.Core.Path.{_≡_};
 ghost use Prim.Native.Nat.{_+_, _*_, _≤_, _<_};
 ghost use lib.ListN.{length};
+ghost use Rattle.numbers.specs.Numbers.{if_then_else_};
 ghost use Rattle.joined.specs.Joined.{newOf};
-ghost use Rattle.card.specs.Format.{nextAt, kindAt, optionAt, numberAt, settingsAt, requestedAt, airspeedAt, vehicleAt, stepInputAt, primeAt, stepAt, cutFor, newSettingsAt, recordAt, isKnown, headerFor, headerOf};
+ghost use Rattle.card.specs.Format.{nextAt, kindAt, optionAt, numberAt, settingsAt, vehicleAt, stepInputAt, cutFor, recordAt, isKnown, headerFor, headerOf};
 
 // What a record after the header says: a call, or a kind or option that section 7 does not name.
 pub(crate) enum Record {
@@ -91,36 +92,12 @@ fn settings_at(card: &[u8], i: usize) -> Settings
     }
 }
 
-// What a step requests: Plane if its option is odd.
-fn requested_at(card: &[u8], i: usize) -> FlightRegime
-    requires { ⌜ 80 * i + 80 ≤ length (now card) ⌝ }
-    ensures { λ r. ⌜ r ≡ requestedAt (now (card .entry)) i ⌝ }
-{
-    if option_at(card, i) % 2 == 1 {
-        FlightRegime::Plane
-    } else {
-        FlightRegime::Copter
-    }
-}
-
-// A step's airspeed, present if its option is 2 or more.
-fn airspeed_at(card: &[u8], i: usize) -> Airspeed
-    requires { ⌜ 80 * i + 80 ≤ length (now card) ⌝ }
-    ensures { λ r. ⌜ r ≡ airspeedAt (now (card .entry)) i ⌝ }
-{
-    if option_at(card, i) >= 2 {
-        Airspeed::Present(number_at(card, i, 12))
-    } else {
-        Airspeed::Absent
-    }
-}
-
 // What a step is told of the vehicle.
 fn vehicle_at(card: &[u8], i: usize) -> VehicleState
     requires { ⌜ 80 * i + 80 ≤ length (now card) ⌝ }
     ensures { λ r. ⌜ r ≡ vehicleAt (now (card .entry)) i ⌝ }
 {
-    let airspeed = airspeed_at(card, i);
+    let airspeed = airspeed_by(option_at(card, i), number_at(card, i, 12));
     VehicleState {
         z_m: number_at(card, i, 2),
         velocity_mps: Vec3 {
@@ -147,7 +124,7 @@ fn step_input_at(card: &[u8], i: usize) -> StepInput
     requires { ⌜ 80 * i + 80 ≤ length (now card) ⌝ }
     ensures { λ r. ⌜ r ≡ stepInputAt (now (card .entry)) i ⌝ }
 {
-    let requested = requested_at(card, i);
+    let requested = requested_by(option_at(card, i));
     let state = vehicle_at(card, i);
     StepInput {
         dt: number_at(card, i, 1),
@@ -159,25 +136,12 @@ fn step_input_at(card: &[u8], i: usize) -> StepInput
     }
 }
 
-// Record i of kind 1: a prime.
-fn prime_at(card: &[u8], i: usize) -> Record
-    requires { ⌜ 80 * i + 80 ≤ length (now card) ⌝ }
-    ensures { λ r. ⌜ r ≡ primeAt (now (card .entry)) i ⌝ }
+// The call, if its option is one that it may have.
+fn known_if(good: bool, call: Call) -> Record
+    ensures { λ r. ⌜ r ≡ (if good then Record.Known call else Record.Unknown) ⌝ }
 {
-    if option_at(card, i) == 0 {
-        Record::Known(Call::Prime(number_at(card, i, 2)))
-    } else {
-        Record::Unknown
-    }
-}
-
-// Record i of kind 2: a step.
-fn step_at(card: &[u8], i: usize) -> Record
-    requires { ⌜ 80 * i + 80 ≤ length (now card) ⌝ }
-    ensures { λ r. ⌜ r ≡ stepAt (now (card .entry)) i ⌝ }
-{
-    if option_at(card, i) <= 3 {
-        Record::Known(Call::Step(step_input_at(card, i)))
+    if good {
+        Record::Known(call)
     } else {
         Record::Unknown
     }
@@ -198,29 +162,18 @@ fn cut_for(option: u8) -> Record
     }
 }
 
-// Record i of kind 4: new settings.
-fn new_settings_at(card: &[u8], i: usize) -> Record
-    requires { ⌜ 80 * i + 80 ≤ length (now card) ⌝ }
-    ensures { λ r. ⌜ r ≡ newSettingsAt (now (card .entry)) i ⌝ }
-{
-    if option_at(card, i) == 0 {
-        Record::Known(Call::Settings(settings_at(card, i)))
-    } else {
-        Record::Unknown
-    }
-}
-
 // What record i says, if it is not the header.
 pub(crate) fn record_at(card: &[u8], i: usize) -> Record
     requires { ⌜ 80 * i + 80 ≤ length (now card) ⌝ }
     ensures { λ r. ⌜ r ≡ recordAt (now (card .entry)) i ⌝ }
 {
     let kind = kind_at(card, i);
+    let option = option_at(card, i);
     match kind {
-        1 => prime_at(card, i),
-        2 => step_at(card, i),
-        3 => cut_for(option_at(card, i)),
-        4 => new_settings_at(card, i),
+        1 => known_if(option == 0, Call::Prime(number_at(card, i, 2))),
+        2 => known_if(option <= 3, Call::Step(step_input_at(card, i))),
+        3 => cut_for(option),
+        4 => known_if(option == 0, Call::Settings(settings_at(card, i))),
         _ => Record::Unknown,
     }
 }

@@ -2,7 +2,7 @@
 use crate::refusal::CardRefusal;
 use joined::answer::Answer;
 use joined::answer::Line;
-use machines::FlightMode;
+use joined::answer::letter;
 use machines::InputRefusal;
 use machines::MaybeRefusal;
 use machines::answer::ShareOrTilt;
@@ -14,7 +14,7 @@ ghost use Prim.Native.Nat.{_+_, _≤_, _<_};
 ghost use lib.ListN.{length};
 ghost use Rattle.numbers.specs.Numbers.{bitsOf};
 ghost use Rattle.machines.specs.Refusals.{reportOf};
-ghost use Rattle.joined.specs.Shown.{letterOf, tiltBits, outputBits, flagOf, shownOf};
+ghost use Rattle.joined.specs.Shown.{tiltBits, outputBits, flagOf, shownOf};
 ghost use Rattle.card.specs.CardRefusals.{cardRefusalOf, cardFieldOf};
 ghost use Rattle.card.specs.Text.{spaced, hexDigit, hexOf, decimalOf, outputWord, refusalWords, wordsOf, recordLine, endLine, cardLine, Written};
 
@@ -26,11 +26,12 @@ fn hex_digit(n: u32) -> u8
     if n < 10 { 48 + n as u8 } else { 55 + n as u8 }
 }
 
-// Eight hexadecimal digits, and what stands after them.
-fn hex(out: &mut [u8], at: usize, n: u32, after: u8) -> usize
+// A number's bits in eight hexadecimal digits, and what stands after them.
+fn bits(out: &mut [u8], at: usize, x: f32, after: u8) -> usize
     requires { ⌜ at + 9 ≤ length (now out) ⌝ }
-    ensures { λ r. ⌜ Written (now (out .entry)) at (hexOf n ++ after ∷ []) (now (out .exit)) r × (r ≤ at + 9) ⌝ }
+    ensures { λ r. ⌜ Written (now (out .entry)) at (hexOf (bitsOf x) ++ after ∷ []) (now (out .exit)) r × (r ≤ at + 9) ⌝ }
 {
+    let n = to_bits(x);
     out[at] = hex_digit(n / 0x1000_0000 % 16);
     out[at + 1] = hex_digit(n / 0x100_0000 % 16);
     out[at + 2] = hex_digit(n / 0x10_0000 % 16);
@@ -67,11 +68,11 @@ fn decimal(out: &mut [u8], at: usize, n: usize, after: u8) -> usize
 }
 
 // One byte, and what stands after it.
-fn letter(out: &mut [u8], at: usize, byte: u8, after: u8) -> usize
+fn byte(out: &mut [u8], at: usize, first: u8, after: u8) -> usize
     requires { ⌜ at + 2 ≤ length (now out) ⌝ }
-    ensures { λ r. ⌜ Written (now (out .entry)) at (byte ∷ after ∷ []) (now (out .exit)) r × (r ≤ at + 2) ⌝ }
+    ensures { λ r. ⌜ Written (now (out .entry)) at (first ∷ after ∷ []) (now (out .exit)) r × (r ≤ at + 2) ⌝ }
 {
-    out[at] = byte;
+    out[at] = first;
     out[at + 1] = after;
     at + 2
 }
@@ -89,35 +90,15 @@ fn word(out: &mut [u8], at: usize, text: &[u8]) -> usize
     at + i
 }
 
-// A number's bits, and what stands after them.
-fn bits(out: &mut [u8], at: usize, x: f32, after: u8) -> usize
-    requires { ⌜ at + 9 ≤ length (now out) ⌝ }
-    ensures { λ r. ⌜ Written (now (out .entry)) at (hexOf (bitsOf x) ++ after ∷ []) (now (out .exit)) r × (r ≤ at + 9) ⌝ }
-{
-    hex(out, at, to_bits(x), after)
-}
-
-// A mode's letter.
-fn mode_letter(mode: FlightMode) -> u8
-    ensures { λ r. ⌜ r ≡ letterOf mode ⌝ }
-{
-    match mode {
-        FlightMode::Copter => b'C',
-        FlightMode::Plane => b'P',
-        FlightMode::ToPlane => b'F',
-        FlightMode::ToCopter => b'B',
-    }
-}
-
 // 1 or 0, and what stands after it.
 fn flag(out: &mut [u8], at: usize, on: bool, after: u8) -> usize
     requires { ⌜ at + 2 ≤ length (now out) ⌝ }
     ensures { λ r. ⌜ Written (now (out .entry)) at (decimalOf (flagOf on) ++ after ∷ []) (now (out .exit)) r × (r ≤ at + 2) ⌝ }
 {
     if on {
-        letter(out, at, b'1', after)
+        byte(out, at, b'1', after)
     } else {
-        letter(out, at, b'0', after)
+        byte(out, at, b'0', after)
     }
 }
 
@@ -128,7 +109,7 @@ fn tilt(out: &mut [u8], at: usize, target: TiltTarget, after: u8) -> usize
 {
     match target {
         TiltTarget::Tilt(x) => bits(out, at, x, after),
-        TiltTarget::None => letter(out, at, b'-', after),
+        TiltTarget::None => byte(out, at, b'-', after),
     }
 }
 
@@ -161,7 +142,7 @@ fn line_words(out: &mut [u8], at: usize, line: Line) -> usize
     let mode = line.mode;
     let output = line.output;
     let report = line.report;
-    let at = letter(out, at, mode_letter(mode), b' ');
+    let at = byte(out, at, letter(mode), b' ');
     let at = share_or_tilt(out, at, output, b' ');
     let at = flag(out, at, line.handoff, b' ');
     line_end(out, at, report, line.thrust, line.pitch_rad)

@@ -36,7 +36,7 @@ use Rattle.joined.specs.declared.thrust.Thrusted.{Thrusted}
 use Rattle.joined.specs.declared.joined.JoinedUpdate.{JoinedUpdate}
 use Rattle.joined.specs.declared.joined.NewJoined.{NewJoined}
 use Rattle.joined.specs.declared.joined.NewJoined.the-variants as made
-use Rattle.joined.specs.Machine.{modeOf, isPlane, isToCopter, handoffTimeOf, newMachineOf, primeMachineOf, setMachineOf, updateMachineOf, cutMachineOf, pastRollLimitOf}
+use Rattle.joined.specs.Machine.{modeOf, modeIs, isToCopter, handoffTimeOf, newMachineOf, primeMachineOf, setMachineOf, updateMachineOf, cutMachineOf, pastRollLimitOf}
 
 -- ---- "new and prime give a new handoff, pitch 0, thrust 0"
 abbrev pub initial : Machine → Joined
@@ -71,15 +71,23 @@ refusedBy j why = record { joined = j; answer = answer.Refused why }
 abbrev pub freshHandoff : Machine → Float → ThrustHandoff
 freshHandoff m kept = startOf (newHandoff (handoffTimeOf m)) kept
 
+-- that one, or the old one
+abbrev pub handoffIf : Bool → Joined → Machine → ThrustHandoff
+handoffIf starts j m = if starts then freshHandoff m (j .thrust) else j .handoff
+
 -- ---- a step
+
+-- a step entered a mode
+abbrev pub entered : FlightMode → FlightMode → FlightMode → Bool
+entered m before after = not (modeIs m before) && modeIs m after
 
 -- "entering Plane or a handoff flag starts a fresh handoff"
 abbrev pub startsHandoff : FlightMode → FlightMode → Bool → Bool
-startsHandoff before after flag = flag || (not (isPlane before) && isPlane after)
+startsHandoff before after flag = flag || entered mode.Plane before after
 
 -- "entering ToCopter sets pitch 0"
 abbrev pub entryPitch : FlightMode → FlightMode → BackDeceleration → BackDeceleration
-entryPitch before after d = if not (isToCopter before) && isToCopter after then level else d
+entryPitch before after d = if entered mode.ToCopter before after then level else d
 
 -- "quadplane steps ending in ToCopter apply deceleration with fields 9 and 10"
 abbrev pub decelerated : Machine → StepInput → BackDeceleration → BackDeceleration
@@ -122,7 +130,7 @@ thrustOf (machine.Quadplane m) after h i = blended h i
 
 -- the state after the machine has moved to m with the step s: handoff, then pitch, then thrust
 abbrev pub steppedHandoff : Joined → Machine → TransitionStep → ThrustHandoff
-steppedHandoff j m s = if startsHandoff (modeOf (j .machine)) (s .mode) (s .handoff) then freshHandoff m (j .thrust) else j .handoff
+steppedHandoff j m s = handoffIf (startsHandoff (modeOf (j .machine)) (s .mode) (s .handoff)) j m
 
 abbrev pub thrustedOf : Joined → Machine → TransitionStep → StepInput → Thrusted
 thrustedOf j m s i = thrustOf m (s .mode) (steppedHandoff j m s) i
@@ -172,7 +180,7 @@ abbrev pub cutIf : TransitionAnswer → Joined → Machine → JoinedUpdate
 cutIf (moved.Refused why) j m = refusedBy j why
 cutIf (moved.Step s) j m = answered (record {
   machine = m;
-  handoff = if s .handoff then freshHandoff m (j .thrust) else j .handoff;
+  handoff = handoffIf (s .handoff) j m;
   deceleration = j .deceleration;
   thrust = j .thrust;
 }) s

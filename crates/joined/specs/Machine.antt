@@ -1,5 +1,7 @@
 -- Document 01, section 6: "either machine, the airframe fixed at its making and settings always its own". Definitions only. Assumes nothing.
 use mathlib.Core.Bool.{Bool, true, false, _&&_}
+use Prim.Native.Nat.{ℕ}
+use lib.Dec.{eqb}
 use lib.Ieee.{Float, lt, neg}
 use Rattle.numbers.specs.Numbers.{if_then_else_, zero32}
 use Rattle.machines.specs.declared.FlightMode.{FlightMode}
@@ -80,36 +82,27 @@ stateIn (machine.Quadplane m) = m .state
 abbrev pub modeOf : Machine → FlightMode
 modeOf m = stateIn m .mode
 
--- ---- tests of a mode
-abbrev pub isCopter : FlightMode → Bool
-isCopter mode.Copter = true
-isCopter mode.Plane = false
-isCopter mode.ToPlane = false
-isCopter mode.ToCopter = false
-
-abbrev pub isPlane : FlightMode → Bool
-isPlane mode.Plane = true
-isPlane mode.Copter = false
-isPlane mode.ToPlane = false
-isPlane mode.ToCopter = false
-
-abbrev pub isToPlane : FlightMode → Bool
-isToPlane mode.ToPlane = true
-isToPlane mode.Copter = false
-isToPlane mode.Plane = false
-isToPlane mode.ToCopter = false
-
-abbrev pub isToCopter : FlightMode → Bool
-isToCopter mode.ToCopter = true
-isToCopter mode.Copter = false
-isToCopter mode.Plane = false
-isToCopter mode.ToPlane = false
+-- ---- tests of a mode, by its place among the four
+abbrev pub placeOf : FlightMode → ℕ
+placeOf mode.Copter = 0
+placeOf mode.Plane = 1
+placeOf mode.ToPlane = 2
+placeOf mode.ToCopter = 3
 
 abbrev pub modeIs : FlightMode → FlightMode → Bool
-modeIs mode.Copter m = isCopter m
-modeIs mode.Plane m = isPlane m
-modeIs mode.ToPlane m = isToPlane m
-modeIs mode.ToCopter m = isToCopter m
+modeIs m n = eqb (placeOf m) (placeOf n)
+
+abbrev pub isCopter : FlightMode → Bool
+isCopter = modeIs mode.Copter
+
+abbrev pub isPlane : FlightMode → Bool
+isPlane = modeIs mode.Plane
+
+abbrev pub isToPlane : FlightMode → Bool
+isToPlane = modeIs mode.ToPlane
+
+abbrev pub isToCopter : FlightMode → Bool
+isToCopter = modeIs mode.ToCopter
 
 -- ---- fields 14 and 15, handoff_s and roll_limit_rad
 abbrev pub handoffTimeOf : Machine → Float

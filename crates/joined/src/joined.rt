@@ -9,7 +9,6 @@ use crate::machine::MachineUpdate;
 use crate::machine::NewMachine;
 use crate::settings::Settings;
 use crate::thrust::entry_pitch;
-use crate::thrust::new_handoff;
 use crate::thrust::starts_handoff;
 use machines::InputRefusal;
 use machines::ModeRefusal;
@@ -17,9 +16,9 @@ use machines::answer::TransitionAnswer;
 use machines::answer::TransitionStep;
 use machines::deceleration::BackDeceleration;
 use machines::handoff::ThrustHandoff;
+use numbers::ranges::is_positive;
 ghost use mathlib.Core.Path.{_≡_};
-ghost use Rattle.machines.specs.declared.answer.TransitionAnswer.the-variants as moved;
-ghost use Rattle.joined.specs.Joined.{initial, newOf, answered, refusedBy, steppedHandoff, stepped, steppedBy, stepOf, primeOf, cutIf, cutOf, setOf, callOf, EntrySays};
+ghost use Rattle.joined.specs.Joined.{initial, newOf, answered, refusedBy, handoffIf, stepped, steppedBy, stepOf, primeOf, cutOf, setOf, callOf, EntrySays};
 
 // The state. What it holds is nobody else's to write.
 pub struct Joined {
@@ -55,11 +54,11 @@ impl Joined {
         }
     }
 
-    // The machine with a new handoff, pitch 0 and thrust 0.
+    // The machine with a new handoff, pitch 0 and thrust 0. A machine's own duration is a limit, so there is nothing to refuse.
     fn initial(machine: Machine) -> Joined
         ensures { λ r. ⌜ r ≡ initial machine ⌝ }
     {
-        let handoff = new_handoff(machine.handoff_s());
+        let handoff = ThrustHandoff::inactive(machine.handoff_s());
         let deceleration = BackDeceleration::new();
         Joined {
             machine,
@@ -99,13 +98,11 @@ impl Joined {
         }
     }
 
-    // The handoff of a step that moved the machine.
-    fn stepped_handoff(self, machine: Machine, step: TransitionStep) -> ThrustHandoff
-        ensures { λ r. ⌜ r ≡ steppedHandoff self machine step ⌝ }
+    // A fresh handoff from the kept thrust, if one starts, or the old one.
+    fn handoff_if(self, starts: bool, machine: Machine) -> ThrustHandoff
+        ensures { λ r. ⌜ r ≡ handoffIf starts self machine ⌝ }
     {
-        let before = self.machine;
-        let after = step.mode;
-        if starts_handoff(before.mode(), after, step.handoff) {
+        if starts {
             machine.fresh_handoff(self.thrust)
         } else {
             self.handoff
@@ -121,7 +118,8 @@ impl Joined {
         let pitch = self.deceleration;
         let pitch = entry_pitch(before.mode(), after, pitch);
         let deceleration = machine.stepped_pitch(after, input, pitch);
-        let thrusted = machine.thrust(after, self.stepped_handoff(machine, step), input);
+        let starts = starts_handoff(before.mode(), after, step.handoff);
+        let thrusted = machine.thrust(after, self.handoff_if(starts, machine), input);
         let handoff = thrusted.handoff;
         Joined {
             machine,
@@ -144,19 +142,19 @@ impl Joined {
     }
 
     // One step, with refusals 1 and 2. A transition that has rolled past the limit is cut short; else the machine is updated.
+    // The test of dt stands first, so that the compiler knows its outcome in all that follows.
     pub fn step(self, input: StepInput) -> JoinedUpdate
         ensures { λ r. ⌜ r ≡ stepOf self input ⌝ }
     {
+        if !is_positive(input.dt) {
+            return self.refused(InputRefusal::TimeStep);
+        }
         let machine = self.machine;
         let update = machine.update(input);
         let answer = update.answer;
         match answer {
             TransitionAnswer::Step(_) => {
-                if machine.past_roll_limit(input.bank_rad) {
-                    self.stepped_by(machine.cut_short(ModeRefusal::RollError), input)
-                } else {
-                    self.stepped_by(update, input)
-                }
+                self.stepped_by(update.cut_or(machine, input.bank_rad), input)
             }
             TransitionAnswer::Refused(why) => self.refused(why),
         }
@@ -176,22 +174,6 @@ impl Joined {
         }
     }
 
-    // The state after a cut that moved the machine.
-    fn cut_by(self, machine: Machine, step: TransitionStep) -> JoinedUpdate
-        ensures { λ r. ⌜ r ≡ cutIf (moved.Step step) self machine ⌝ }
-    {
-        if step.handoff {
-            let handoff = machine.fresh_handoff(self.thrust);
-            Joined {
-                machine,
-                handoff,
-                ..self
-            }.answered(step)
-        } else {
-            Joined { machine, ..self }.answered(step)
-        }
-    }
-
     // Cuts a transition short. Thrust and pitch stay. No machine refuses a cut.
     pub fn cut(self, why: ModeRefusal) -> JoinedUpdate
         ensures { λ r. ⌜ r ≡ cutOf self why ⌝ }
@@ -201,7 +183,14 @@ impl Joined {
         let machine = update.machine;
         let answer = update.answer;
         match answer {
-            TransitionAnswer::Step(step) => self.cut_by(machine, step),
+            TransitionAnswer::Step(step) => {
+                let handoff = self.handoff_if(step.handoff, machine);
+                Joined {
+                    machine,
+                    handoff,
+                    ..self
+                }.answered(step)
+            }
             TransitionAnswer::Refused(refusal) => self.refused(refusal),
         }
     }

@@ -14,6 +14,7 @@ use machines::vtol::TransitionUpdate;
 use numbers::logic::both;
 ghost use mathlib.Core.Path.{_≡_};
 ghost use Rattle.joined.specs.declared.machine.Airframe.the-variants as airframe;
+ghost use Rattle.joined.specs.Joined.{cutOr};
 ghost use Rattle.joined.specs.Machine.{newMachineOf, modeOf, primeMachineOf, setMachineOf, updateMachineOf, cutMachineOf, handoffTimeOf, rollLimitOf, transitioning, absOf, pastRollLimitOf, ofTransition, ofLift};
 
 // Which aircraft: fixed when the joined machine is made.
@@ -38,6 +39,19 @@ pub(crate) struct MachineUpdate {
 pub(crate) enum NewMachine {
     Refused(InputRefusal),
     Machine(Machine),
+}
+
+impl MachineUpdate {
+    // This update, or the machine cut short if it has rolled past the limit in a transition.
+    pub(crate) fn cut_or(self, machine: Machine, bank_rad: f32) -> MachineUpdate
+        ensures { λ r. ⌜ r ≡ cutOr machine «bank_rad» self ⌝ }
+    {
+        if machine.past_roll_limit(bank_rad) {
+            machine.cut_short(ModeRefusal::RollError)
+        } else {
+            self
+        }
+    }
 }
 
 // The update of a tailsitter's machine as one of either.

@@ -11,9 +11,8 @@ use machines::sink::guard_sink;
 use numbers::logic::both;
 use numbers::logic::either;
 ghost use mathlib.Core.Path.{_≡_};
-ghost use Rattle.machines.specs.Thrust.{newHandoff};
-ghost use Rattle.joined.specs.Machine.{isPlane, isToCopter};
-ghost use Rattle.joined.specs.Joined.{freshHandoff, startsHandoff, entryPitch, decelerated, steppedPitch, blended, backThrust, tailsitterThrust, thrustOf};
+ghost use Rattle.joined.specs.Machine.{placeOf, modeIs};
+ghost use Rattle.joined.specs.Joined.{freshHandoff, entered, startsHandoff, entryPitch, decelerated, steppedPitch, blended, backThrust, tailsitterThrust, thrustOf};
 
 // A step's thrust, and the handoff after it.
 pub(crate) struct Thrusted {
@@ -21,46 +20,37 @@ pub(crate) struct Thrusted {
     pub thrust: f32,
 }
 
-// Whether a mode is Plane.
-fn is_plane(mode: FlightMode) -> bool
-    ensures { λ r. ⌜ r ≡ isPlane mode ⌝ }
+// A mode's place among the four.
+fn place(mode: FlightMode) -> u8
+    ensures { λ r. ⌜ r ≡ placeOf mode ⌝ }
 {
     match mode {
-        FlightMode::Plane => true,
-        FlightMode::Copter => false,
-        FlightMode::ToPlane => false,
-        FlightMode::ToCopter => false,
+        FlightMode::Copter => 0,
+        FlightMode::Plane => 1,
+        FlightMode::ToPlane => 2,
+        FlightMode::ToCopter => 3,
     }
 }
 
-// Whether a mode is ToCopter.
-fn is_to_copter(mode: FlightMode) -> bool
-    ensures { λ r. ⌜ r ≡ isToCopter mode ⌝ }
+// Whether two modes are the same.
+fn is_mode(mode: FlightMode, other: FlightMode) -> bool
+    ensures { λ r. ⌜ r ≡ modeIs mode other ⌝ }
 {
-    match mode {
-        FlightMode::ToCopter => true,
-        FlightMode::Copter => false,
-        FlightMode::Plane => false,
-        FlightMode::ToPlane => false,
-    }
+    place(mode) == place(other)
+}
+
+// Whether a step entered a mode.
+fn entered(mode: FlightMode, before: FlightMode, after: FlightMode) -> bool
+    ensures { λ r. ⌜ r ≡ entered mode before after ⌝ }
+{
+    both(!is_mode(mode, before), is_mode(mode, after))
 }
 
 // Whether a step starts a handoff: by its flag, or by entering Plane.
 pub(crate) fn starts_handoff(before: FlightMode, after: FlightMode, flag: bool) -> bool
     ensures { λ r. ⌜ r ≡ startsHandoff before after flag ⌝ }
 {
-    either(flag, both(!is_plane(before), is_plane(after)))
-}
-
-// A new handoff, inactive. A machine's own duration is a limit, so there is nothing to refuse.
-pub(crate) fn new_handoff(duration_s: f32) -> ThrustHandoff
-    ensures { λ r. ⌜ r ≡ newHandoff «duration_s» ⌝ }
-{
-    ThrustHandoff {
-        duration_s,
-        from: 0.0,
-        elapsed_s: duration_s,
-    }
+    either(flag, entered(FlightMode::Plane, before, after))
 }
 
 // Entering ToCopter sets the pitch 0.
@@ -71,7 +61,7 @@ pub(crate) fn entry_pitch(
 ) -> BackDeceleration
     ensures { λ r. ⌜ r ≡ entryPitch before after pitch ⌝ }
 {
-    if both(!is_to_copter(before), is_to_copter(after)) {
+    if entered(FlightMode::ToCopter, before, after) {
         BackDeceleration::new()
     } else {
         pitch
@@ -134,11 +124,11 @@ fn tailsitter_thrust(
 }
 
 impl Machine {
-    // A fresh handoff from the kept thrust.
+    // A fresh handoff from the kept thrust. A machine's own duration is a limit, so there is nothing to refuse.
     pub(crate) fn fresh_handoff(self, kept: f32) -> ThrustHandoff
         ensures { λ r. ⌜ r ≡ freshHandoff self kept ⌝ }
     {
-        new_handoff(self.handoff_s()).start(kept)
+        ThrustHandoff::inactive(self.handoff_s()).start(kept)
     }
 
     // The quadplane's deceleration in ToCopter.
@@ -170,7 +160,7 @@ impl Machine {
     ) -> BackDeceleration
         ensures { λ r. ⌜ r ≡ steppedPitch after self input pitch ⌝ }
     {
-        if is_to_copter(after) {
+        if is_mode(FlightMode::ToCopter, after) {
             self.decelerated(input, pitch)
         } else {
             pitch

@@ -1,6 +1,6 @@
 -- Document 01, section 3: the gate and the airspeed reading. Definitions only. Assumes nothing.
 use mathlib.Core.Bool.{Bool, true, false, _&&_}
-use lib.Ieee.{Float, nan, lt, le}
+use lib.Ieee.{Float, lt, le}
 use Rattle.numbers.specs.Numbers.{if_then_else_, _⊖_, zero32, finite, maxOf}
 use Rattle.machines.specs.declared.ModeRefusal.the-variants.{BelowMinAltitude}
 use Rattle.machines.specs.declared.MaybeRefusal.{MaybeRefusal}
@@ -14,9 +14,6 @@ use Rattle.machines.specs.declared.gate.ForwardGate.{ForwardGate}
 -- the gate at the last prime, with its z; "before any prime" the z is NaN, and so is every height
 abbrev pub primedGate : Float → ForwardGate
 primedGate z = record { «home_altitude_m» = z; abandoned = refusal.None }
-
-abbrev pub newGate : ForwardGate
-newGate = primedGate nan
 
 -- "height is z minus the z of the last prime"
 abbrev pub heightOf : ForwardGate → Float → Float

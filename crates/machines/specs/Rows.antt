@@ -1,7 +1,7 @@
 -- Document 01, section 4: what the two machines share. The rows go by mode and request; what an airframe finds for itself (completion, timeout, done) is in `Found`.
 -- Definitions only. Assumes nothing.
 use mathlib.Core.Bool.{Bool, true, false}
-use lib.Ieee.{Float}
+use lib.Ieee.{Float, nan}
 use Rattle.numbers.specs.Numbers.{if_then_else_, _⊕_, zero32}
 use Rattle.machines.specs.declared.FlightMode.{FlightMode}
 use Rattle.machines.specs.declared.FlightMode.the-variants as mode
@@ -17,17 +17,14 @@ use Rattle.machines.specs.declared.answer.TransitionAnswer.the-variants.
 use Rattle.machines.specs.declared.gate.ForwardGate.{ForwardGate}
 use Rattle.machines.specs.declared.rows.TransitionState.{TransitionState}
 use Rattle.machines.specs.declared.rows.Moved.{Moved}
-use Rattle.machines.specs.Gate.{newGate, primedGate, forwardRefusalOf, floorTrips}
+use Rattle.machines.specs.Gate.{primedGate, forwardRefusalOf, floorTrips}
 
--- ---- "new and prime: Copter, report 0, no abandonment"; the clock is at 0 then
-abbrev pub resetState : ForwardGate → TransitionState
-resetState gate = record { gate = gate; mode = mode.Copter; refusal = refusal.None; «elapsed_s» = zero32 }
+-- ---- "new and prime: Copter, report 0, no abandonment"; the clock is at 0 then. "Before any prime" the gate's z is NaN.
+abbrev pub primedState : Float → TransitionState
+primedState z = record { gate = primedGate z; mode = mode.Copter; refusal = refusal.None; «elapsed_s» = zero32 }
 
 abbrev pub newState : TransitionState
-newState = resetState newGate
-
-abbrev pub primedState : Float → TransitionState
-primedState z = resetState (primedGate z)
+newState = primedState nan
 
 -- ---- an answer (section 6): mode, share or tilt, handoff flag, report
 abbrev pub answerOf : TransitionState → ShareOrTilt → Bool → TransitionAnswer

@@ -5,7 +5,6 @@ use numbers::constants::THREE_TENTHS;
 use numbers::math::clamp;
 use numbers::ranges::is_finite;
 use numbers::ranges::is_positive;
-use numbers::vector::Vec2;
 ghost use mathlib.Core.Path.{_≡_};
 ghost use Rattle.machines.specs.Thrust.{level, decelerationOf, pitchOf, decelerateOf};
 
@@ -29,10 +28,7 @@ pub struct DecelerationUpdate {
 fn ground_deceleration_mps2(state: VehicleState) -> f32
     ensures { λ r. ⌜ r ≡ decelerationOf state ⌝ }
 {
-    let velocity_mps = Vec2 {
-        x: state.velocity_mps.x,
-        y: state.velocity_mps.y,
-    };
+    let velocity_mps = state.velocity_mps.xy();
     let speed_mps = velocity_mps.norm();
     if speed_mps == 0.0 {
         return 0.0;

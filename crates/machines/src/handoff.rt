@@ -5,7 +5,7 @@ use numbers::math::saturate_throttle;
 use numbers::ranges::is_limit;
 use numbers::ranges::is_positive;
 ghost use mathlib.Core.Path.{_≡_};
-ghost use Rattle.machines.specs.Thrust.{newHandoffOf, startOf, activeOf, appliedOf, applyOf};
+ghost use Rattle.machines.specs.Thrust.{newHandoff, newHandoffOf, startOf, activeOf, appliedOf, applyOf};
 
 pub struct ThrustHandoff {
     pub duration_s: f32,
@@ -30,16 +30,23 @@ pub struct HandoffUpdate {
 }
 
 impl ThrustHandoff {
+    // The handoff of a duration, not started. It does not ask whether the duration is a limit.
+    pub fn inactive(duration_s: f32) -> ThrustHandoff
+        ensures { λ r. ⌜ r ≡ newHandoff «duration_s» ⌝ }
+    {
+        ThrustHandoff {
+            duration_s,
+            from: 0.0,
+            elapsed_s: duration_s,
+        }
+    }
+
     // A handoff that blends over a time, inactive until it is started.
     pub fn new(duration_s: f32) -> NewHandoff
         ensures { λ r. ⌜ r ≡ newHandoffOf «duration_s» ⌝ }
     {
         if is_limit(duration_s) {
-            NewHandoff::Handoff(ThrustHandoff {
-                duration_s,
-                from: 0.0,
-                elapsed_s: duration_s,
-            })
+            NewHandoff::Handoff(ThrustHandoff::inactive(duration_s))
         } else {
             NewHandoff::Refused(InputRefusal::HandoffDuration)
         }

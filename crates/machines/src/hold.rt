@@ -3,7 +3,6 @@ use crate::control::ControlInput;
 use crate::control::MaybeHeading;
 use crate::control::MaybeVelocity;
 use crate::control::WaypointCommand;
-use numbers::vector::Vec2;
 use numbers::vector::Vec3;
 ghost use mathlib.Core.Path.{_≡_};
 ghost use Rattle.machines.specs.Hold.{noHold, passing, pointOf, holding, isWaypoint, inputOf};
@@ -32,10 +31,7 @@ impl HeldPoint {
         match self {
             HeldPoint::At(point) => point,
             HeldPoint::None => WaypointCommand {
-                position_m: Vec2 {
-                    x: position_m.x,
-                    y: position_m.y,
-                },
+                position_m: position_m.xy(),
                 velocity_mps: MaybeVelocity::None,
                 altitude_m: position_m.z,
                 cruise_speed_mps: 0.0,

@@ -27,8 +27,8 @@ pub enum RampStart {
 }
 
 pub struct LiftTransition {
-    pub config: LiftTransitionConfig,
     pub state: TransitionState,
+    pub config: LiftTransitionConfig,
     pub ramp_start_s: RampStart,
 }
 

@@ -23,6 +23,7 @@ use crate::answer::ShareOrTilt;
 use crate::answer::TransitionAnswer;
 use crate::answer::TransitionStep;
 use crate::gate::ForwardGate;
+use numbers::constants::nan;
 ghost use mathlib.Core.Path.{_≡_};
 ghost use Rattle.machines.specs.Gate.{holds, forwardRefusalOf, floorTrips};
 ghost use Rattle.machines.specs.Rows.{newState, primedState, answerOf, clearAbandonment, inMode, entering, abandonedMode, abandon, clockAfter, begin, plain, enters, handsOver, copterRow, toPlaneRow, planeRow, finish, toCopterRow, cutOf};
@@ -74,12 +75,7 @@ impl TransitionState {
     pub(crate) fn new() -> TransitionState
         ensures { λ r. ⌜ r ≡ newState ⌝ }
     {
-        TransitionState {
-            gate: ForwardGate::new(),
-            mode: FlightMode::Copter,
-            refusal: MaybeRefusal::None,
-            elapsed_s: 0.0,
-        }
+        TransitionState::primed(nan())
     }
 
     // As new, with the height reference z.

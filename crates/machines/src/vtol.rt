@@ -24,8 +24,8 @@ ghost use mathlib.Core.Path.{_≡_};
 ghost use Rattle.machines.specs.Transition.{tiltOf, unknownTilt, startTilt, answered, refusedBy, forwardDone, movedOf, settledOf, badEntryTilt, updateOf, primeOf, cutShortOf, newOf, setConfigOf};
 
 pub struct Transition {
-    pub config: TransitionConfig,
     pub state: TransitionState,
+    pub config: TransitionConfig,
     // where the tilt target ramps from
     pub start_tilt_rad: f32,
 }

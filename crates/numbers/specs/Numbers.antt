@@ -2,7 +2,7 @@
 -- The values, the operations and the comparisons are IEEE 754's, as the library `lib.Ieee` has them: one `nan`, two infinities, two zeros.
 -- Assumes nothing.
 use mathlib.Core.Bool.{Bool, true, false}
-use Prim.Native.Nat.{ℕ}
+use Prim.Native.Nat.{ℕ, _+_, _*_}
 use lib.Ieee.{Float, nan, inf, fin, binary32, ofBits, toBits, add, sub, mul, div, lt, isNan}
 
 -- a choice by a test
@@ -32,6 +32,10 @@ floatOf n = ofBits binary32 n
 
 abbrev pub bitsOf : Float → ℕ
 bitsOf x = toBits binary32 x
+
+-- ---- 32 bits of four bytes, the lowest first
+abbrev pub littleEndian : ℕ → ℕ → ℕ → ℕ → ℕ
+littleEndian b0 b1 b2 b3 = b0 + b1 * 256 + b2 * 65536 + b3 * 16777216
 
 -- ---- constants: +0, 1 and 2
 abbrev pub zero32 : Float

@@ -1,7 +1,7 @@
 // Vectors and the attitude quaternion: each operation rounded once, in the order of document 01, section 1. Their numbers may be any numbers.
 use crate::root::root;
 ghost use mathlib.Core.Path.{_≡_};
-ghost use Rattle.numbers.specs.Vectors.{dotOf, normOf, crossOf, scaleOf, plusOf, imagOf, rotateOf, noseUpOf, forwardSpeedOf};
+ghost use Rattle.numbers.specs.Vectors.{dotOf, normOf, xyOf, crossOf, scaleOf, plusOf, imagOf, rotateOf, noseUpOf, forwardSpeedOf};
 
 // A horizontal vector.
 pub struct Vec2 {
@@ -40,6 +40,16 @@ impl Vec2 {
 }
 
 impl Vec3 {
+    // The horizontal part.
+    pub fn xy(self) -> Vec2
+        ensures { λ r. ⌜ r ≡ xyOf self ⌝ }
+    {
+        Vec2 {
+            x: self.x,
+            y: self.y,
+        }
+    }
+
     // The cross product.
     pub fn cross(self, b: Vec3) -> Vec3
         ensures { λ r. ⌜ r ≡ crossOf self b ⌝ }

@@ -40,11 +40,7 @@ fn new_state() -> TransitionState {
 // What is kept before the first record.
 pub fn start() -> Kept {
     Kept {
-        handoff: ThrustHandoff {
-            duration_s: 0.0,
-            from: 0.0,
-            elapsed_s: 0.0,
-        },
+        handoff: ThrustHandoff::inactive(0.0),
         deceleration: BackDeceleration::new(),
         split: ForwardThrust {
             config: ForwardThrustConfig {

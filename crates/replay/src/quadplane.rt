@@ -43,24 +43,17 @@ fn updated(b: &[u8; 80], before: LiftTransition) -> LiftTransition {
     after.machine
 }
 
-// Kinds 60 to 64.
-fn called(b: &[u8; 80], before: LiftTransition) -> LiftTransition {
+// Kinds 60 to 64, with what is kept.
+pub fn call(b: &[u8; 80], k: Kept) -> Kept {
     let kind = record::kind(b);
-    match kind {
+    let before = k.quadplane;
+    let quadplane = match kind {
         60 => new(b, before),
         61..=64 => updated(b, before),
         _ => {
             show::unknown();
             before
         }
-    }
-}
-
-// Kinds 60 to 64, with what is kept.
-pub fn call(b: &[u8; 80], k: Kept) -> Kept {
-    let before = k.quadplane;
-    Kept {
-        quadplane: called(b, before),
-        ..k
-    }
+    };
+    Kept { quadplane, ..k }
 }

@@ -4,10 +4,10 @@ use machines::FlightRegime;
 use machines::ModeRefusal;
 use machines::VehicleState;
 use numbers::bits::from_bits;
+use numbers::bits::from_le_bytes;
 use numbers::vector::Quaternion;
 use numbers::vector::Vec2;
 use numbers::vector::Vec3;
-ghost use Prim.Native.Nat.{_<_};
 
 // The kind of the call.
 pub fn kind(b: &[u8; 80]) -> u8 {
@@ -19,29 +19,13 @@ pub fn option(b: &[u8; 80]) -> u8 {
     b[1]
 }
 
-// A byte as a wider number.
-fn wide(x: u8) -> u32
-    ensures { λ r. ⌜ r < 256 ⌝ }
-{
-    x as u32
-}
-
-// Byte i; 0 past the end.
-fn byte(b: &[u8; 80], i: usize) -> u32
-    ensures { λ r. ⌜ r < 256 ⌝ }
-{
-    if i < 80 { wide(b[i]) } else { 0 }
-}
-
 // Number i, any NaN as the NaN; 0 past the end.
 pub fn number(b: &[u8; 80], i: usize) -> f32 {
     if i >= 20 {
         return 0.0;
     }
     let at = 4 * i;
-    let low = byte(b, at) + byte(b, at + 1) * 256;
-    let high = byte(b, at + 2) + byte(b, at + 3) * 256;
-    from_bits(low + high * 65536)
+    from_bits(from_le_bytes(b[at], b[at + 1], b[at + 2], b[at + 3]))
 }
 
 // The vector of two numbers.

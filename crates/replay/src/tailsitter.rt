@@ -48,24 +48,17 @@ fn updated(b: &[u8; 80], before: Transition) -> Transition {
     after.machine
 }
 
-// Kinds 50 to 54.
-fn called(b: &[u8; 80], before: Transition) -> Transition {
+// Kinds 50 to 54, with what is kept.
+pub fn call(b: &[u8; 80], k: Kept) -> Kept {
     let kind = record::kind(b);
-    match kind {
+    let before = k.tailsitter;
+    let tailsitter = match kind {
         50 => new(b, before),
         51..=54 => updated(b, before),
         _ => {
             show::unknown();
             before
         }
-    }
-}
-
-// Kinds 50 to 54, with what is kept.
-pub fn call(b: &[u8; 80], k: Kept) -> Kept {
-    let before = k.tailsitter;
-    Kept {
-        tailsitter: called(b, before),
-        ..k
-    }
+    };
+    Kept { tailsitter, ..k }
 }

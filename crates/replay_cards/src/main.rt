@@ -4,14 +4,7 @@ use card::run::Ran;
 use card::run::run;
 use libc::STDIN_FILENO;
 use libc::STDOUT_FILENO;
-ghost use Prim.Native.Nat.{_<_};
-
-// A byte as a wider number.
-fn wide(x: u8) -> u32
-    ensures { λ r. ⌜ r < 256 ⌝ }
-{
-    x as u32
-}
+use numbers::bits::from_le_bytes;
 
 // The length of the next card; -1 at the end of the list.
 fn next_length() -> isize {
@@ -19,7 +12,7 @@ fn next_length() -> isize {
     if io::read_full(STDIN_FILENO, &mut b) < 4 {
         return -1;
     }
-    (wide(b[0]) + wide(b[1]) * 256 + wide(b[2]) * 65536 + wide(b[3]) * 16777216) as isize
+    from_le_bytes(b[0], b[1], b[2], b[3]) as isize
 }
 
 // The number of bytes that a run wrote, at most 32,000.

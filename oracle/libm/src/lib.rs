@@ -1,7 +1,7 @@
 //! Stand-in for libm: each function hands out the number that the caller supplied (document 01, section 1), if it is asked for the
 //! argument that this number belongs to, and else NaN. A function that was supplied nothing panics.
 
-use std::cell::RefCell;
+use std::cell::{Cell, RefCell};
 
 /// A number supplied for an argument.
 #[derive(Clone, Copy)]
@@ -12,8 +12,8 @@ pub struct For {
 
 thread_local! {
     static COSINES: RefCell<Vec<For>> = RefCell::default();
-    static TILT: RefCell<Option<For>> = RefCell::default();
-    static TANGENT: RefCell<Option<For>> = RefCell::default();
+    static TILT: Cell<Option<For>> = const { Cell::new(None) };
+    static TANGENT: Cell<Option<For>> = const { Cell::new(None) };
 }
 
 /// Runs `call` with the done cosines at hand, the forward one first.
@@ -56,10 +56,10 @@ pub fn cosf(angle_rad: f32) -> f32 {
 
 /// The entry tilt.
 pub fn acosf(cosine: f32) -> f32 {
-    hand_out(TILT.with_borrow(|tilt| *tilt), cosine)
+    hand_out(TILT.get(), cosine)
 }
 
 /// The tangent for the split.
 pub fn tanf(angle_rad: f32) -> f32 {
-    hand_out(TANGENT.with_borrow(|tangent| *tangent), angle_rad)
+    hand_out(TANGENT.get(), angle_rad)
 }

@@ -39,7 +39,11 @@ impl Vector2<f32> {
     }
 
     pub fn norm(&self) -> f32 {
-        root(self.norm_squared())
+        if cfg!(feature = "processor_root") {
+            self.norm_squared().sqrt()
+        } else {
+            root(self.norm_squared())
+        }
     }
 }
 

@@ -11,15 +11,14 @@ mod thrust;
 
 use crate::card::{RECORD_BYTES, Record};
 use crate::machine::Airframe;
-use crate::random::{CLASSES, Class, Random};
+use crate::random::{CLASSES, Class, Random, SMALLEST};
 use std::collections::BTreeMap;
 use std::fmt::Write;
 
-/// The least number above 0.
-const SMALLEST: f32 = f32::from_bits(1);
-
 /// Numbers inside, at the ends of and outside 0 to 1; the end 1 is left to `around`.
 const UNIT_EDGES: [f32; 7] = [0.0, -0.0, SMALLEST, -SMALLEST, 0.5, -1.0, 2.0];
+
+const BAD_DT: [f32; 6] = [0.0, -0.0, f32::NAN, f32::INFINITY, f32::NEG_INFINITY, -SMALLEST];
 
 /// Records in a row, and the random numbers that they are made from.
 struct List {

@@ -1,8 +1,8 @@
 //! The answers to a list of calls: each record is one call of a helper or of a machine of the Rust and gives one line.
 
-use crate::card::{RECORD_BYTES, Record, bits, mode_letter, refusal_words};
+use crate::card::{RECORD_BYTES, Record, bits, mode_letter, refused};
 use crate::machine::{Airframe, Machine, Moved, Refusal, goes_through, good_dt, reason};
-use crate::settings::{self, Settings};
+use crate::settings::{self, bad_field, defaults};
 use nalgebra::UnitQuaternion;
 use stable_flight::guidance::vtol::{ForwardThrust, ForwardThrustConfig, ThrustHandoff};
 use stable_flight::{
@@ -34,7 +34,7 @@ struct Kept {
 
 impl Kept {
     fn new() -> Kept {
-        let made = |airframe, s: Settings| Machine::new(airframe, &s).expect("the default settings are good");
+        let made = |airframe| Machine::new(airframe, &defaults(airframe)).expect("the default settings are good");
         Kept {
             handoff: ThrustHandoff::new(0.0),
             deceleration: open::Deceleration::default(),
@@ -43,8 +43,8 @@ impl Kept {
                 pitch_limit_rad: 0.0,
             }),
             hold: open::Hold::default(),
-            tailsitter: made(Airframe::Tailsitter, settings::tailsitter_defaults()),
-            quadplane: made(Airframe::Quadplane, settings::quadplane_defaults()),
+            tailsitter: made(Airframe::Tailsitter),
+            quadplane: made(Airframe::Quadplane),
         }
     }
 
@@ -90,10 +90,6 @@ fn words(numbers: &[f32]) -> String {
 
 fn word_or_none(x: Option<f32>) -> String {
     x.map_or("-".to_string(), word)
-}
-
-fn refused(refusal: Refusal) -> String {
-    format!("refused {}", refusal_words(refusal))
 }
 
 /// min and max of two zeros may give either in the Rust; here they give the first named, as document 01, section 1, does.
@@ -175,11 +171,11 @@ fn split_bad_field(config: &ForwardThrustConfig) -> u8 {
 /// Kinds 20 to 24: the checks of settings, and the default settings.
 fn settings_line(r: &Record) -> String {
     match r.kind() {
-        20 => settings::tailsitter_bad_field(&r.settings()).to_string(),
-        21 => settings::quadplane_bad_field(&r.settings()).to_string(),
+        20 => bad_field(Airframe::Tailsitter, &r.settings()).to_string(),
+        21 => bad_field(Airframe::Quadplane, &r.settings()).to_string(),
         22 => split_bad_field(&split_config(r)).to_string(),
-        23 => words(&settings::tailsitter_defaults()[..15]),
-        _ => words(&settings::quadplane_defaults()[..15]),
+        23 => words(&defaults(Airframe::Tailsitter)[..15]),
+        _ => words(&defaults(Airframe::Quadplane)[..15]),
     }
 }
 

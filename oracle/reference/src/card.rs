@@ -1,13 +1,56 @@
 //! The flight card and its transcript: document 01, sections 7 and 9.
 
 use crate::joined::{Call, Joined, Line};
-use crate::machine::{Airframe, Refusal, Step, bad_field};
+use crate::machine::{Airframe, Refusal, Step, check_settings};
 use crate::settings::Settings;
 use stable_flight::FlightMode;
 use std::fmt::Write;
 
 pub const RECORD_BYTES: usize = 80;
 pub const MOST_RECORDS: usize = 800;
+
+pub type RecordBytes = [u8; RECORD_BYTES];
+
+/// The kind of an airframe's header.
+pub fn header_kind(airframe: Airframe) -> u8 {
+    match airframe {
+        Airframe::Tailsitter => 5,
+        Airframe::Quadplane => 6,
+    }
+}
+
+/// A record with these numbers from number 1 on, and 0 for the others.
+pub fn record_bytes(kind: u8, option: u8, numbers: &[f32]) -> RecordBytes {
+    let mut bytes = [0; RECORD_BYTES];
+    bytes[0] = kind;
+    bytes[1] = option;
+    for (i, x) in numbers.iter().enumerate() {
+        bytes[4 * i + 4..4 * i + 8].copy_from_slice(&x.to_le_bytes());
+    }
+    bytes
+}
+
+/// The header of an airframe.
+pub fn header_bytes(airframe: Airframe, settings: &Settings) -> RecordBytes {
+    record_bytes(header_kind(airframe), 0, settings)
+}
+
+pub fn step_bytes(step: &Step) -> RecordBytes {
+    record_bytes(2, step.option(), &step.numbers)
+}
+
+pub fn set_next(record: &mut RecordBytes, next: usize) {
+    record[2..4].copy_from_slice(&(next as u16).to_le_bytes());
+}
+
+/// The card of these records, one after the other.
+pub fn in_order(mut records: Vec<RecordBytes>) -> Vec<u8> {
+    let last = records.len() - 1;
+    for (i, record) in records.iter_mut().enumerate() {
+        set_next(record, if i == last { 0 } else { i + 1 });
+    }
+    records.concat()
+}
 
 /// A record of a card or of a list of calls.
 #[derive(Debug, Clone, Copy)]
@@ -36,11 +79,7 @@ impl Record<'_> {
     }
 
     pub fn step(&self) -> Step {
-        Step {
-            plane_requested: self.option() % 2 == 1,
-            airspeed_present: self.option() >= 2,
-            numbers: std::array::from_fn(|i| self.number(i + 1)),
-        }
+        Step::new(self.option(), std::array::from_fn(|i| self.number(i + 1)))
     }
 
     /// Whether kind and option are good in a record after the header.
@@ -93,10 +132,7 @@ pub fn check(card: &[u8], marks: &mut [u8]) -> Result<Checked, Refusal> {
         (6, 0) => Airframe::Quadplane,
         _ => return Err(Refusal::Number(10)),
     };
-    match bad_field(airframe, &header.settings()) {
-        0 => {}
-        field => return Err(Refusal::Setting(field)),
-    }
+    check_settings(airframe, &header.settings())?;
     let chain = chain(card, marks)?;
     Ok(Checked { airframe, chain })
 }
@@ -143,7 +179,7 @@ pub fn transcript(card: &[u8]) -> String {
     for (index, call) in calls(card, &checked.chain) {
         let words = match joined.call(&call) {
             Ok(line) => line_words(&line),
-            Err(refusal) => format!("refused {}", refusal_words(refusal)),
+            Err(refusal) => refused(refusal),
         };
         writeln!(text, "{index} {words}").unwrap();
     }
@@ -170,8 +206,13 @@ pub fn cards(list: &[u8]) -> Vec<&[u8]> {
     cards
 }
 
+/// The line of a call that is turned down.
+pub fn refused(refusal: Refusal) -> String {
+    format!("refused {}", refusal_words(refusal))
+}
+
 /// The number of a refusal, and after 3 the field.
-pub fn refusal_words(refusal: Refusal) -> String {
+fn refusal_words(refusal: Refusal) -> String {
     match refusal {
         Refusal::Number(number) => number.to_string(),
         Refusal::Setting(field) => format!("3 {field}"),

@@ -5,18 +5,14 @@ mod cards;
 mod numbers;
 mod rows;
 
-use crate::card::{self, MOST_RECORDS, mode_letter};
-use crate::joined::{Call, Line};
-use crate::machine::{Airframe, Refusal, Step};
-use crate::settings::Settings;
+use crate::card::{self, MOST_RECORDS};
+use crate::joined::{Call, Joined, Line};
+use crate::machine::{AIRFRAMES, Airframe, MODES, Moved, Refusal, Step};
+use crate::settings::defaults;
 use crate::track::Track;
-use crate::{joined::Joined, settings};
 use stable_flight::FlightMode;
 use std::collections::HashMap;
 use std::fmt::Write;
-
-pub const AIRFRAMES: [Airframe; 2] = [Airframe::Tailsitter, Airframe::Quadplane];
-pub const MODES: [FlightMode; 4] = [FlightMode::Copter, FlightMode::ToPlane, FlightMode::Plane, FlightMode::ToCopter];
 
 /// An item, and whether a call reaches it.
 type Item = (&'static str, bool);
@@ -70,34 +66,20 @@ pub fn airframe_word(airframe: Airframe) -> &'static str {
     }
 }
 
-fn mode_word(mode: FlightMode) -> &'static str {
-    match mode_letter(mode) {
-        'C' => "Copter",
-        'P' => "Plane",
-        'F' => "ToPlane",
-        _ => "ToCopter",
-    }
-}
-
 /// "tailsitter in ToPlane".
 fn place(airframe: Airframe, mode: FlightMode) -> String {
-    format!("{} in {}", airframe_word(airframe), mode_word(mode))
+    format!("{} in {mode:?}", airframe_word(airframe))
 }
 
 /// What a list of cards reaches: one line for each item, then how many of them are reached.
 pub fn report(list: &[u8]) -> String {
     let mut counts = required();
-    let (mut rest, mut cards, mut calls) = (list, 0, 0);
-    while let Some((length, after)) = rest.split_first_chunk::<4>() {
-        let (card, others) = after.split_at(u32::from_le_bytes(*length) as usize);
-        calls += run(&mut counts, card);
-        cards += 1;
-        rest = others;
-    }
-    written(&counts, cards, calls)
+    let cards = card::cards(list);
+    let calls = cards.iter().map(|card| run(&mut counts, card)).sum();
+    written(&counts, cards.len(), calls)
 }
 
-fn written(counts: &Counts, cards: u64, calls: u64) -> String {
+fn written(counts: &Counts, cards: usize, calls: usize) -> String {
     let mut text = String::new();
     let mut reached = 0;
     for name in &counts.names {
@@ -112,7 +94,7 @@ fn written(counts: &Counts, cards: u64, calls: u64) -> String {
 }
 
 /// Runs a card and counts what it reaches. Answers how many calls it holds.
-fn run(counts: &mut Counts, bytes: &[u8]) -> u64 {
+fn run(counts: &mut Counts, bytes: &[u8]) -> usize {
     cards::count(counts, bytes);
     let Ok(checked) = card::check(bytes, &mut [0; MOST_RECORDS]) else {
         return 0;
@@ -125,7 +107,7 @@ fn run(counts: &mut Counts, bytes: &[u8]) -> u64 {
         let answer = track.call(&call);
         count_call(counts, &before, &track, &call, answer);
     }
-    checked.chain.len() as u64
+    checked.chain.len()
 }
 
 fn count_call(counts: &mut Counts, before: &Track, after: &Track, call: &Call, answer: Result<Line, Refusal>) {
@@ -164,8 +146,7 @@ fn required() -> Counts {
         for report in [0, 11, 12, 13, 14, 15, 16] {
             counts.name(format!("{word}: report {report}"));
         }
-        let settings = default_settings(airframe);
-        let mut track = Track::new(Joined::new(airframe, &settings).expect("the defaults"));
+        let mut track = Track::new(Joined::new(airframe, &defaults(airframe)).expect("the defaults"));
         for mode in MODES {
             track.mode = mode;
             rows::name(&mut counts, &track);
@@ -178,24 +159,13 @@ fn required() -> Counts {
     counts
 }
 
-fn default_settings(airframe: Airframe) -> Settings {
-    match airframe {
-        Airframe::Tailsitter => settings::tailsitter_defaults(),
-        Airframe::Quadplane => settings::quadplane_defaults(),
-    }
-}
-
 /// A step, an answer, to name items with.
 fn no_step() -> Step {
-    Step {
-        plane_requested: false,
-        airspeed_present: false,
-        numbers: [0.0; 15],
-    }
+    Step::new(0, [0.0; 15])
 }
 
 fn no_line(track: &Track) -> Line {
-    let moved = crate::machine::Moved {
+    let moved = Moved {
         mode: track.mode,
         output: None,
         handoff: false,

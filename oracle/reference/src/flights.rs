@@ -10,8 +10,9 @@ mod flight;
 mod rows;
 mod usual;
 
-pub use classes::{ends, fields, past_ends};
+pub use classes::{ends, past_ends};
 
+use crate::card::in_order;
 use crate::machine::Airframe;
 use crate::random::Random;
 use flight::Flight;
@@ -64,7 +65,7 @@ fn finished(mut flight: Flight) -> Vec<u8> {
             let unreached = flight.random.below(4);
             chains::scattered(&mut flight.random, &flight.records, unreached)
         }
-        _ => chains::in_order(flight.records),
+        _ => in_order(flight.records),
     }
 }
 

@@ -1,6 +1,6 @@
 //! The joined machine of document 01, section 6, over the Rust's machine, handoff, sink guard and deceleration.
 
-use crate::machine::{Airframe, Machine, Moved, Refusal, Step, reason};
+use crate::machine::{Airframe, Machine, Moved, Refusal, Step, reason, transitioning};
 use crate::settings::Settings;
 use stable_flight::guidance::vtol::ThrustHandoff;
 use stable_flight::{FlightMode, open};
@@ -82,7 +82,7 @@ impl Joined {
             return Err(refusal);
         }
         let before = self.machine.mode();
-        let transitioning = matches!(before, FlightMode::ToPlane | FlightMode::ToCopter);
+        let transitioning = transitioning(before);
         let moved = if transitioning && step.bank_rad().abs() > self.field(15) {
             self.machine.cut_short(reason(15))
         } else {

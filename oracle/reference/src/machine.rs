@@ -1,9 +1,9 @@
 //! Either machine of the Rust behind one face: settings, prime, update, cut (document 01, section 4), with the refusals of section 9.
 
-use crate::settings::{self, Settings};
+use crate::settings::{Settings, bad_field, lift_transition_config, transition_config};
 use nalgebra::UnitQuaternion;
 use stable_flight::guidance::vtol::{LiftTransition, LiftTransitionStep, Transition, TransitionStep};
-use stable_flight::{Configurable, FlightMode, FlightRegime, ModeRefusal, Vec3, VehicleState, open};
+use stable_flight::{Configurable, FlightMode, FlightModeReport, FlightRegime, ModeRefusal, Vec3, VehicleState, open};
 use std::cell::Cell;
 use std::panic;
 use std::sync::Once;
@@ -12,6 +12,13 @@ use std::sync::Once;
 pub enum Airframe {
     Tailsitter,
     Quadplane,
+}
+
+pub const AIRFRAMES: [Airframe; 2] = [Airframe::Tailsitter, Airframe::Quadplane];
+pub const MODES: [FlightMode; 4] = [FlightMode::Copter, FlightMode::ToPlane, FlightMode::Plane, FlightMode::ToCopter];
+
+pub fn transitioning(mode: FlightMode) -> bool {
+    matches!(mode, FlightMode::ToPlane | FlightMode::ToCopter)
 }
 
 /// Why a call is turned down: the number of section 9, with the field for 3.
@@ -39,6 +46,20 @@ pub struct Step {
 }
 
 impl Step {
+    /// The step of a record's option and numbers.
+    pub fn new(option: u8, numbers: [f32; 15]) -> Step {
+        Step {
+            plane_requested: option % 2 == 1,
+            airspeed_present: option >= 2,
+            numbers,
+        }
+    }
+
+    /// The option: 1 for a Plane request, plus 2 if the airspeed is present.
+    pub fn option(&self) -> u8 {
+        u8::from(self.plane_requested) + 2 * u8::from(self.airspeed_present)
+    }
+
     pub fn dt(&self) -> f32 {
         self.numbers[0]
     }
@@ -87,11 +108,11 @@ pub enum Machine {
     Quadplane(LiftTransition),
 }
 
-/// The first bad field, or 0.
-pub fn bad_field(airframe: Airframe, s: &Settings) -> u8 {
-    match airframe {
-        Airframe::Tailsitter => settings::tailsitter_bad_field(s),
-        Airframe::Quadplane => settings::quadplane_bad_field(s),
+/// Refusal 3, with the first bad field.
+pub fn check_settings(airframe: Airframe, s: &Settings) -> Result<(), Refusal> {
+    match bad_field(airframe, s) {
+        0 => Ok(()),
+        field => Err(Refusal::Setting(field)),
     }
 }
 
@@ -121,32 +142,38 @@ pub fn good_dt(dt: f32) -> bool {
     goes_through(|| open::assert_dt(dt))
 }
 
-/// The reason with a number of section 10.
+/// The reasons of section 10, with their numbers.
+const REASONS: [(u8, ModeRefusal); 6] = [
+    (11, ModeRefusal::Unsupported),
+    (12, ModeRefusal::OnGround),
+    (13, ModeRefusal::BelowMinAltitude),
+    (14, ModeRefusal::TransitionTimeout),
+    (15, ModeRefusal::RollError),
+    (16, ModeRefusal::BelowPlaneMinAltitude),
+];
+
 pub fn reason(number: u8) -> ModeRefusal {
-    match number {
-        11 => ModeRefusal::Unsupported,
-        12 => ModeRefusal::OnGround,
-        13 => ModeRefusal::BelowMinAltitude,
-        14 => ModeRefusal::TransitionTimeout,
-        15 => ModeRefusal::RollError,
-        16 => ModeRefusal::BelowPlaneMinAltitude,
-        _ => panic!("no reason has the number {number}"),
-    }
+    let found = REASONS.iter().find(|(n, _)| *n == number);
+    found.expect("the number of a reason").1
 }
 
-fn report_number(refusal: Option<ModeRefusal>) -> u8 {
-    (11..=16).find(|&number| Some(reason(number)) == refusal).unwrap_or(0)
+pub fn number(reason: ModeRefusal) -> u8 {
+    let found = REASONS.iter().find(|(_, r)| *r == reason);
+    found.expect("a reason with a number").0
+}
+
+/// The number of a report, 0 if it is none.
+pub fn report_number(report: Option<ModeRefusal>) -> u8 {
+    report.map_or(0, number)
 }
 
 impl Machine {
     pub fn new(airframe: Airframe, s: &Settings) -> Result<Machine, Refusal> {
-        match (bad_field(airframe, s), airframe) {
-            (0, Airframe::Tailsitter) => Ok(Machine::Tailsitter(with_done_cosines(s, || {
-                Transition::new(settings::transition_config(s))
-            }))),
-            (0, Airframe::Quadplane) => Ok(Machine::Quadplane(LiftTransition::new(settings::lift_transition_config(s)))),
-            (field, _) => Err(Refusal::Setting(field)),
-        }
+        check_settings(airframe, s)?;
+        Ok(match airframe {
+            Airframe::Tailsitter => Machine::Tailsitter(with_done_cosines(s, || Transition::new(transition_config(s)))),
+            Airframe::Quadplane => Machine::Quadplane(LiftTransition::new(lift_transition_config(s))),
+        })
     }
 
     pub fn airframe(&self) -> Airframe {
@@ -157,13 +184,10 @@ impl Machine {
     }
 
     pub fn set_config(&mut self, s: &Settings) -> Result<Moved, Refusal> {
-        match bad_field(self.airframe(), s) {
-            0 => {}
-            field => return Err(Refusal::Setting(field)),
-        }
+        check_settings(self.airframe(), s)?;
         match self {
-            Machine::Tailsitter(machine) => with_done_cosines(s, || machine.set_config(settings::transition_config(s))),
-            Machine::Quadplane(machine) => machine.set_config(settings::lift_transition_config(s)),
+            Machine::Tailsitter(machine) => with_done_cosines(s, || machine.set_config(transition_config(s))),
+            Machine::Quadplane(machine) => machine.set_config(lift_transition_config(s)),
         }
         .expect("settings that were found good");
         Ok(self.shown())
@@ -229,54 +253,48 @@ impl Machine {
         }
     }
 
-    pub fn mode(&self) -> FlightMode {
+    fn report(&self) -> FlightModeReport {
         match self {
-            Machine::Tailsitter(machine) => machine.report().mode,
-            Machine::Quadplane(machine) => machine.report().mode,
+            Machine::Tailsitter(machine) => machine.report(),
+            Machine::Quadplane(machine) => machine.report(),
         }
+    }
+
+    pub fn mode(&self) -> FlightMode {
+        self.report().mode
     }
 
     /// What a prime or a settings call answers: the Rust's calls return nothing, so it is read from the machine.
     pub fn shown(&self) -> Moved {
-        match self {
-            Machine::Tailsitter(machine) => Moved {
-                mode: machine.report().mode,
-                output: tilt(machine, open::tilt_target_rad(machine)),
-                handoff: false,
-                report: report_number(machine.report().refusal),
-            },
-            Machine::Quadplane(machine) => Moved {
-                mode: machine.report().mode,
-                output: Some(open::lift_share(machine)),
-                handoff: false,
-                report: report_number(machine.report().refusal),
-            },
-        }
+        let output = match self {
+            Machine::Tailsitter(machine) => tilt(machine, open::tilt_target_rad(machine)),
+            Machine::Quadplane(machine) => Some(open::lift_share(machine)),
+        };
+        moved(self.mode(), output, false, self.report())
+    }
+}
+
+fn moved(mode: FlightMode, output: Option<f32>, handoff: bool, report: FlightModeReport) -> Moved {
+    Moved {
+        mode,
+        output,
+        handoff,
+        report: report_number(report.refusal),
     }
 }
 
 /// The step that the Rust returned, and its report.
 fn tailsitter_moved(machine: &Transition, step: &TransitionStep) -> Moved {
-    Moved {
-        mode: step.mode,
-        output: tilt(machine, step.tilt_target_rad),
-        handoff: step.handoff,
-        report: report_number(machine.report().refusal),
-    }
+    moved(step.mode, tilt(machine, step.tilt_target_rad), step.handoff, machine.report())
 }
 
 /// The step that the Rust returned, and its report.
 fn quadplane_moved(machine: &LiftTransition, step: &LiftTransitionStep) -> Moved {
-    Moved {
-        mode: step.mode,
-        output: Some(step.lift_share),
-        handoff: step.handoff,
-        report: report_number(machine.report().refusal),
-    }
+    moved(step.mode, Some(step.lift_share), step.handoff, machine.report())
 }
 
 /// Runs `call` with the settings' two done cosines at hand.
-fn with_done_cosines<T>(s: &Settings, call: impl FnOnce() -> T) -> T {
+pub fn with_done_cosines<T>(s: &Settings, call: impl FnOnce() -> T) -> T {
     let supplied = |angle: usize, cosine: usize| libm::For {
         argument: s[angle],
         number: s[cosine],

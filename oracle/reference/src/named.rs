@@ -1,8 +1,9 @@
 //! Cards with a name: the example of document 01, section 7, and the inputs of docs/DIFFERENCES.md. Each comes with what the paper or
 //! that page says of it, and the tests hold the reference to that.
 
-use crate::machine::Airframe;
-use crate::settings::{Settings, quadplane_defaults, tailsitter_defaults};
+use crate::card::{RecordBytes, header_bytes, in_order, record_bytes, step_bytes};
+use crate::machine::{Airframe, Step};
+use crate::settings::{Settings, changed, defaults};
 use std::f32::consts::{FRAC_PI_2, PI};
 
 /// A card, and lines of its transcript: each a number from 1 and the words.
@@ -14,22 +15,12 @@ pub struct Named {
 
 /// A card whose records run in their order.
 struct Flight {
-    records: Vec<[u8; 80]>,
-}
-
-fn record(kind: u8, option: u8, numbers: &[f32]) -> [u8; 80] {
-    let mut bytes = [0; 80];
-    bytes[0] = kind;
-    bytes[1] = option;
-    for (i, x) in numbers.iter().enumerate() {
-        bytes[4 * i + 4..4 * i + 8].copy_from_slice(&x.to_le_bytes());
-    }
-    bytes
+    records: Vec<RecordBytes>,
 }
 
 /// What differs from step to step in these flights. The rest: z 10, velocity and acceleration 0, the nose where the airframe hovers.
 #[derive(Clone, Copy)]
-struct Tick {
+struct ShortStep {
     plane: bool,
     dt: f32,
     demand: f32,
@@ -44,8 +35,8 @@ const LEVEL: [f32; 4] = [1.0, 0.0, 0.0, 0.0];
 /// Nose straight up: 2·w·y is 1.
 const NOSE_UP: [f32; 4] = [0.5, 0.0, 1.0, 0.0];
 
-fn copter(dt: f32, demand: f32) -> Tick {
-    Tick {
+fn copter(dt: f32, demand: f32) -> ShortStep {
+    ShortStep {
         plane: false,
         dt,
         demand,
@@ -57,65 +48,64 @@ fn copter(dt: f32, demand: f32) -> Tick {
     }
 }
 
-fn plane(dt: f32, demand: f32) -> Tick {
-    Tick {
+fn plane(dt: f32, demand: f32) -> ShortStep {
+    ShortStep {
         plane: true,
         ..copter(dt, demand)
     }
 }
 
-/// A tick with the nose straight up.
-fn upright(tick: Tick) -> Tick {
-    Tick {
+/// The same with the nose straight up.
+fn upright(step: ShortStep) -> ShortStep {
+    ShortStep {
         attitude: NOSE_UP,
         tilt_rad: 0.0,
-        ..tick
+        ..step
+    }
+}
+
+impl ShortStep {
+    fn step(&self) -> Step {
+        let [w, x, y, z] = self.attitude;
+        let airspeed = self.airspeed.unwrap_or(0.0);
+        let state = [10.0, self.vx, 0.0, 0.0, 0.0, 0.0, w, x, y, z];
+        let others = [airspeed, self.tilt_rad, self.bank_rad, self.demand];
+        let numbers = [&[self.dt], &state[..], &others].concat();
+        Step {
+            plane_requested: self.plane,
+            airspeed_present: self.airspeed.is_some(),
+            numbers: numbers.try_into().expect("15 numbers"),
+        }
     }
 }
 
 impl Flight {
     /// The airframe's header, and a prime at z 0.
     fn new(airframe: Airframe, settings: &Settings) -> Flight {
-        let kind = match airframe {
-            Airframe::Tailsitter => 5,
-            Airframe::Quadplane => 6,
-        };
         Flight {
-            records: vec![record(kind, 0, settings), record(1, 0, &[])],
+            records: vec![header_bytes(airframe, settings), record_bytes(1, 0, &[])],
         }
     }
 
-    fn fly(mut self, ticks: &[Tick]) -> Flight {
-        for tick in ticks {
-            let option = u8::from(tick.plane) + 2 * u8::from(tick.airspeed.is_some());
-            let [w, x, y, z] = tick.attitude;
-            let airspeed = tick.airspeed.unwrap_or(0.0);
-            let state = [10.0, tick.vx, 0.0, 0.0, 0.0, 0.0, w, x, y, z, airspeed];
-            let numbers = [&[tick.dt], &state[..], &[tick.tilt_rad, tick.bank_rad, tick.demand]].concat();
-            self.records.push(record(2, option, &numbers));
-        }
+    fn fly(mut self, steps: &[ShortStep]) -> Flight {
+        self.records.extend(steps.iter().map(|short| step_bytes(&short.step())));
         self
     }
 
     fn cut(mut self, reason: u8) -> Flight {
-        self.records.push(record(3, reason, &[]));
+        self.records.push(record_bytes(3, reason, &[]));
         self
     }
 
-    fn card(mut self) -> Vec<u8> {
-        let last = self.records.len() - 1;
-        for (i, record) in self.records[..last].iter_mut().enumerate() {
-            record[2..4].copy_from_slice(&(i as u16 + 1).to_le_bytes());
-        }
-        self.records.concat()
+    fn card(self) -> Vec<u8> {
+        in_order(self.records)
     }
 }
 
 /// A quadplane with its defaults but for the handoff, that has flown into Plane by line 4 with the demand 0.5.
 fn quadplane_in_plane(handoff_s: f32) -> Flight {
-    let mut settings = quadplane_defaults();
-    settings[13] = handoff_s;
-    let fast = Tick {
+    let settings = changed(&defaults(Airframe::Quadplane), &[(14, handoff_s)]);
+    let fast = ShortStep {
         airspeed: Some(12.0),
         ..plane(1.0, 0.5)
     };
@@ -124,11 +114,8 @@ fn quadplane_in_plane(handoff_s: f32) -> Flight {
 
 /// A tailsitter with its defaults but for handoff, forward and back thrust.
 fn tailsitter(handoff_s: f32, forward_thrust: f32, back_thrust: f32) -> Flight {
-    let mut settings = tailsitter_defaults();
-    settings[9] = forward_thrust;
-    settings[10] = back_thrust;
-    settings[13] = handoff_s;
-    Flight::new(Airframe::Tailsitter, &settings)
+    let changes = [(10, forward_thrust), (11, back_thrust), (14, handoff_s)];
+    Flight::new(Airframe::Tailsitter, &changed(&defaults(Airframe::Tailsitter), &changes))
 }
 
 /// Document 01, section 7: the example.
@@ -136,28 +123,28 @@ fn example() -> Named {
     let settings = [
         9.0, 4.0, 15.0, 5.0, 0.0, 2.0, 5.0, 10.0, 2.0, 0.0, 1.0, 0.25, 0.0625, 0.0, 0.75, 0.0, 0.0,
     ];
-    let ticks = [
+    let steps = [
         plane(1.0, 0.5),
-        Tick {
+        ShortStep {
             airspeed: Some(12.0),
             ..plane(1.0, 0.5)
         },
         plane(2.0, 0.5),
         plane(2.0, 0.5),
         copter(1.0, 0.5),
-        Tick {
+        ShortStep {
             vx: 10.0,
             ..copter(1.0, 0.5)
         },
-        Tick {
+        ShortStep {
             vx: 4.0,
             ..copter(1.0, 0.5)
         },
     ]
-    .map(|tick| Tick { tilt_rad: 0.0, ..tick });
+    .map(|step| ShortStep { tilt_rad: 0.0, ..step });
     Named {
         name: "document 01, section 7",
-        card: Flight::new(Airframe::Quadplane, &settings).fly(&ticks).card(),
+        card: Flight::new(Airframe::Quadplane, &settings).fly(&steps).card(),
         lines: vec![
             (1, "1 C 3F800000 0 0 00000000 00000000"),
             (2, "2 F 3F800000 0 0 3F000000 00000000"),
@@ -173,7 +160,7 @@ fn example() -> Named {
 }
 
 fn quadplane_cards() -> Vec<Named> {
-    let still_fast = Tick {
+    let still_fast = ShortStep {
         vx: 20.0,
         ..copter(1.0, 0.5)
     };
@@ -196,14 +183,13 @@ fn quadplane_cards() -> Vec<Named> {
         Named {
             name: "2.3, quadplane: every step advances a blend",
             card: {
-                let mut settings = quadplane_defaults();
-                settings[13] = 4.0;
-                let fast = Tick {
+                let settings = changed(&defaults(Airframe::Quadplane), &[(14, 4.0)]);
+                let fast = ShortStep {
                     airspeed: Some(12.0),
                     ..plane(5.0, 0.5)
                 };
-                let ticks = [plane(1.0, 0.5), fast, plane(4.0, 0.5), plane(1.0, 1.0), copter(1.0, 1.0)];
-                Flight::new(Airframe::Quadplane, &settings).fly(&ticks).card()
+                let steps = [plane(1.0, 0.5), fast, plane(4.0, 0.5), plane(1.0, 1.0), copter(1.0, 1.0)];
+                Flight::new(Airframe::Quadplane, &settings).fly(&steps).card()
             },
             lines: vec![(5, "5 P 00000000 1 0 3F200000 00000000"), (6, "6 B 00000000 0 0 3F400000 3E4CCCCD")],
         },
@@ -211,7 +197,7 @@ fn quadplane_cards() -> Vec<Named> {
 }
 
 /// The tailsitter's steps into ToPlane and Plane.
-fn into_plane() -> [Tick; 2] {
+fn into_plane() -> [ShortStep; 2] {
     [upright(plane(0.5, 0.5)), plane(0.5, 0.0)]
 }
 
@@ -270,7 +256,7 @@ fn tailsitter_blend_cards() -> Vec<Named> {
         Named {
             name: "1.2, entry tilt: looked at in Copter too",
             card: tailsitter(0.5, 0.5, 0.5)
-                .fly(&[Tick {
+                .fly(&[ShortStep {
                     tilt_rad: f32::NAN,
                     ..copter(1.0, 0.5)
                 }])
@@ -281,12 +267,12 @@ fn tailsitter_blend_cards() -> Vec<Named> {
 }
 
 fn roll_cards() -> Vec<Named> {
-    let banked = |bank_rad, dt| Tick {
+    let banked = |bank_rad, dt| ShortStep {
         bank_rad,
         ..plane(dt, 0.5)
     };
-    let mut widest = quadplane_defaults();
-    widest[14] = PI;
+    let usual = defaults(Airframe::Quadplane);
+    let widest = changed(&usual, &[(15, PI)]);
     let forward = |settings: &Settings| Flight::new(Airframe::Quadplane, settings).fly(&[plane(1.0, 0.5)]);
     vec![
         Named {
@@ -299,12 +285,12 @@ fn roll_cards() -> Vec<Named> {
         },
         Named {
             name: "2.4, bad dt with a roll cut",
-            card: forward(&quadplane_defaults()).fly(&[banked(1.0, 0.0), plane(1.0, 0.5)]).card(),
+            card: forward(&usual).fly(&[banked(1.0, 0.0), plane(1.0, 0.5)]).card(),
             lines: vec![(3, "3 refused 1"), (4, "4 F 3F800000 0 0 3F000000 00000000")],
         },
         Named {
             name: "2.4, cut call: any reason",
-            card: forward(&quadplane_defaults()).cut(12).fly(&[plane(1.0, 0.5)]).card(),
+            card: forward(&usual).cut(12).fly(&[plane(1.0, 0.5)]).card(),
             lines: vec![
                 (3, "3 C 3F800000 0 12 3F000000 00000000"),
                 (4, "4 C 3F800000 0 12 3F000000 00000000"),

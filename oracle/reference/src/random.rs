@@ -1,5 +1,8 @@
 //! Random numbers from a seed, and the numbers at the edges of binary32.
 
+/// The least number above 0.
+pub const SMALLEST: f32 = f32::from_bits(1);
+
 /// SplitMix64: the same seed gives the same numbers on every machine.
 #[derive(Debug, Clone)]
 pub struct Random {

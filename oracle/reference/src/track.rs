@@ -2,7 +2,8 @@
 //! handoff.
 
 use crate::joined::{Call, Joined, Line};
-use crate::machine::{Airframe, Refusal, Step};
+use crate::machine::{Airframe, Refusal, Step, transitioning};
+use crate::settings::{Settings, airspeed_field, height_fields, timeout_fields};
 use stable_flight::{FlightMode, open};
 use std::f32::consts::FRAC_PI_2;
 
@@ -25,10 +26,6 @@ pub struct Track {
     pub abandonment: u8,
     pub handoff_s: f32,
     pub handoff_elapsed_s: f32,
-}
-
-pub fn transitioning(mode: FlightMode) -> bool {
-    matches!(mode, FlightMode::ToPlane | FlightMode::ToCopter)
 }
 
 pub fn nose_up(step: &Step) -> f32 {
@@ -70,7 +67,7 @@ impl Track {
         self.joined.settings()[number - 1]
     }
 
-    pub fn settings(&self) -> &crate::settings::Settings {
+    pub fn settings(&self) -> &Settings {
         self.joined.settings()
     }
 
@@ -79,25 +76,25 @@ impl Track {
     }
 
     pub fn min_height_m(&self) -> f32 {
-        self.field(if self.is_tailsitter() { 8 } else { 4 })
+        self.field(height_fields(self.airframe)[0])
     }
 
     pub fn plane_min_height_m(&self) -> f32 {
-        self.field(if self.is_tailsitter() { 9 } else { 5 })
+        self.field(height_fields(self.airframe)[1])
     }
 
     pub fn min_airspeed_mps(&self) -> f32 {
-        self.field(if self.is_tailsitter() { 4 } else { 1 })
+        self.field(airspeed_field(self.airframe))
     }
 
     /// The timeout of the way to plane flight.
     pub fn timeout_s(&self) -> f32 {
-        self.field(if self.is_tailsitter() { 7 } else { 3 })
+        self.field(timeout_fields(self.airframe)[0])
     }
 
     /// The timeout of the way back.
     pub fn back_timeout_s(&self) -> f32 {
-        self.field(if self.is_tailsitter() { 7 } else { 8 })
+        self.field(timeout_fields(self.airframe)[1])
     }
 
     pub fn roll_limit_rad(&self) -> f32 {

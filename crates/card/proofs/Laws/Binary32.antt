@@ -3,14 +3,15 @@ use mathlib.Core.Bool.{Bool, true, false}
 use mathlib.Core.List.{List, [], _∷_}
 use Prim.Native.Nat.{ℕ, _+_, _*_}
 use lib.Dec.{eqb, leb}
-use lib.Ieee.{binary32}
+use lib.Ieee.{Float, binary32}
 use lib.Ieee.Bits.{ofBits-fits}
 use Rattle.numbers.specs.Numbers.{if_then_else_}
 use Rattle.machines.specs.declared.Airspeed.the-variants as airspeed
 use Rattle.joined.specs.declared.call.Call.{Call}
+use Rattle.joined.specs.Calls.{settingsBy, airspeedOf, vehicleBy, stepInputBy}
 use Rattle.joined.specs.List.{IsBinary32, Binary32Settings, Binary32Airspeed, Binary32Step, Binary32Call, Binary32Calls}
 use Rattle.card.specs.Bytes.{u32At}
-use Rattle.card.specs.Format.{kindAt, optionAt, numberAt, settingsAt, airspeedAt, vehicleAt, stepInputAt, cutFor, recordAt}
+use Rattle.card.specs.Format.{kindAt, optionAt, numberAt, settingsAt, stepInputAt, cutFor, recordAt}
 use Rattle.card.specs.Transcript.{withCall, callsOf}
 use Rattle.card.specs.declared.record.Record.{Record}
 use Rattle.card.specs.declared.record.Record.the-variants as says
@@ -19,19 +20,19 @@ number : (card : List ℕ) (i k : ℕ) → IsBinary32 (numberAt card i k)
 number card i k = ofBits-fits binary32 (u32At card (80 * i + 4 * k))
 
 pub settings-binary32 : (card : List ℕ) (i : ℕ) → Binary32Settings (settingsAt card i)
-unfolding settingsAt
+unfolding settingsBy
 settings-binary32 card i = let n = number card i in (n 1, n 2, n 3, n 4, n 5, n 6, n 7, n 8, n 9, n 10, n 11, n 12, n 13, n 14, n 15, n 16, n 17)
 
-speed : (card : List ℕ) (i : ℕ) → Binary32Airspeed (airspeedAt card i)
-speed card i = go (leb 2 (optionAt card i))
+speed : (option : ℕ) (x : Float) → IsBinary32 x → Binary32Airspeed (airspeedOf option x)
+speed option x p = go (leb 2 option)
   where
-    go : (b : Bool) → Binary32Airspeed (if b then airspeed.Present (numberAt card i 12) else airspeed.Absent)
-    go true = number card i 12
+    go : (b : Bool) → Binary32Airspeed (if b then airspeed.Present x else airspeed.Absent)
+    go true = p
     go false = tt
 
 step : (card : List ℕ) (i : ℕ) → Binary32Step (stepInputAt card i)
-unfolding stepInputAt vehicleAt
-step card i = let n = number card i in (n 1, (n 2, (n 3, n 4, n 5), (n 6, n 7), (n 8, n 9, n 10, n 11), speed card i), n 13, n 14, n 15)
+unfolding stepInputBy vehicleBy
+step card i = let n = number card i in (n 1, (n 2, (n 3, n 4, n 5), (n 6, n 7), (n 8, n 9, n 10, n 11), speed (optionAt card i) (numberAt card i 12) (n 12)), n 13, n 14, n 15)
 
 -- ---- a record, and the records passed
 abbrev ByRecord : Record → Type 0

@@ -3,10 +3,8 @@ use mathlib.Core.Path.{_≡_, refl}
 use mathlib.Core.Bool.{Bool, true, false}
 use mathlib.Core.List.{List, [], _∷_, _++_}
 use Prim.Native.Nat.{ℕ, zero, suc}
-use native.Mathlib.Omega.{arith}
 use lib.Dec.{eqb, leb}
 use lib.ListN.{length}
-use Rattle.numbers.specs.Numbers.{if_then_else_}
 use Rattle.machines.specs.declared.ModeRefusal.{ModeRefusal}
 use Rattle.machines.specs.declared.ModeRefusal.the-variants as reason
 use Rattle.machines.specs.Refusals.{reasonOf}
@@ -15,12 +13,11 @@ use Rattle.joined.specs.declared.call.Call.the-variants as call
 use Rattle.joined.specs.declared.joined.Joined.{Joined}
 use Rattle.joined.specs.List.{after, answersOf}
 use Rattle.card.specs.Format.{nextAt, cutFor, recordAt, isKnown}
-use Rattle.card.specs.Chain.{records, member, stopped, follow, chainOf}
+use Rattle.card.specs.Chain.{records, member, follow, chainOf}
 use Rattle.card.specs.Transcript.{withCall, callsOf, linesOf, runLines}
-use Rattle.card.specs.declared.refusal.CardRefusal.the-variants as refusal
 use Rattle.card.specs.declared.record.Record.{Record}
 use Rattle.card.specs.declared.record.Record.the-variants as says
-use Rattle.card.specs.declared.chain.Checked.the-variants as checked
+use Rattle.card.proofs.Laws.Cases.{impossible, followIf}
 
 -- ---- the option of a cut is its reason's number (section 10)
 pub cut-by-number : (why : ModeRefusal) → cutFor (reasonOf why) ≡ says.Known (call.Cut why)
@@ -42,11 +39,7 @@ follow-known card (suc links) passed link h =
     go (eqb link 0) (leb (records card) link) (member link passed) (isKnown (recordAt card link)) refl (λ g. follow-known card links (link ∷ passed) (nextAt card link) g)
   where
     go : (b₁ b₂ b₃ b₄ : Bool) → isKnown (recordAt card link) ≡ b₄ → (Known card (link ∷ passed) → Known card (follow links card (link ∷ passed) (nextAt card link) .passed))
-        → Known card ((if b₁ then stopped (checked.Walk (length passed)) passed
-        else if b₂ then stopped (checked.Refused refusal.NextIndex) passed
-        else if b₃ then stopped (checked.Refused refusal.PassedRecord) passed
-        else if b₄ then follow links card (link ∷ passed) (nextAt card link)
-        else stopped (checked.Refused refusal.KindOrOption) passed) .passed)
+        → Known card (followIf b₁ b₂ b₃ b₄ passed (follow links card (link ∷ passed) (nextAt card link)) .passed)
     go true b₂ b₃ b₄ e ih = h
     go false true b₃ b₄ e ih = h
     go false false true b₄ e ih = h
@@ -59,7 +52,7 @@ known card = follow-known card (records card) [] (nextAt card 0) tt
 -- ---- so there are as many calls as records passed
 one-more : (r : Record) (cs : List Call) → isKnown r ≡ true → length (withCall r cs) ≡ suc (length cs)
 one-more (says.Known c) cs e = refl
-one-more says.Unknown cs e = let z : _≡_ {A = ℕ} 0 1 = cc in let none : ⊥ = omega arith in absurd none
+one-more says.Unknown cs e = impossible cc
 
 length-calls : (card passed : List ℕ) → Known card passed → length (callsOf card passed) ≡ length passed
 length-calls card [] h = refl
@@ -83,4 +76,4 @@ module _ (card : List ℕ) (j : Joined) (i : ℕ) (passed : List ℕ) where
       go : (r : Record) → isKnown r ≡ true
           → runLines card j passed ++ linesOf (i ∷ []) (answersOf (after j (callsOf card passed)) (withCall r [])) ≡ linesOf (i ∷ passed) (answersOf j (withCall r (callsOf card passed)))
       go (says.Known c) e = refl
-      go says.Unknown e = let z : _≡_ {A = ℕ} 0 1 = cc in let none : ⊥ = omega arith in absurd none
+      go says.Unknown e = impossible cc

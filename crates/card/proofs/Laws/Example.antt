@@ -3,23 +3,21 @@ use mathlib.Core.Path.{_≡_, refl, ap, _∙_}
 use mathlib.Core.Bool.{Bool, true, false}
 use mathlib.Core.List.{List, [], _∷_}
 use Prim.Native.Nat.{ℕ, _≤_}
-use native.Mathlib.Omega.{arith}
 use lib.Dec.{leb}
 use lib.ListN.{length, replicate}
 use lib.Ieee.{ofBits, toBits, add, sub, mul, div, lt, le, eq, neg, isNan}
 use borrow.Author.Tests.{le-leb}
-use Rattle.numbers.specs.Numbers.{if_then_else_}
 use Rattle.numbers.specs.Root.{rootOf}
+use Rattle.joined.specs.Calls.{settingsBy, vehicleBy, stepInputBy}
 use Rattle.card.specs.Bytes.{u16At, u32At}
-use Rattle.card.specs.Format.{settingsAt, vehicleAt, stepInputAt, recordAt, headerOf}
+use Rattle.card.specs.Format.{recordAt, headerOf}
 use Rattle.card.specs.Chain.{whole, records, outcomeBy, outcomeOf}
 use Rattle.card.specs.Text.{hexOf, decimalOf}
 use Rattle.card.specs.Transcript.{transcriptBy, transcriptOf}
-use Rattle.card.specs.declared.refusal.CardRefusal.the-variants as refusal
 use Rattle.card.specs.declared.record.Header.{Header}
 use Rattle.card.specs.declared.record.Header.the-variants as header
 use Rattle.card.specs.declared.chain.Checked.{Checked}
-use Rattle.card.specs.declared.chain.Checked.the-variants as checked
+use Rattle.card.proofs.Laws.Cases.{impossible, outcomeIf}
 
 -- "quadplane settings 9 4 15 5 0 2 5 10 2 0 1 .25 .0625 0 .75; prime z 0; steps with z 10, demand .5, attitude 1 0 0 0, bank 0: ..; the rest 0"
 pub example-card : List ℕ
@@ -74,7 +72,7 @@ example-lines =
     ∷ 101 ∷ 110 ∷ 100 ∷ 32 ∷ 56 ∷ 10 ∷ []
 
 nine-marks : transcriptOf example-card (replicate 9 0) ≡ example-lines
-unfolding example-card example-lines ofBits toBits add sub mul div lt le eq neg isNan rootOf u16At u32At settingsAt vehicleAt stepInputAt recordAt headerOf outcomeOf hexOf decimalOf
+unfolding example-card example-lines ofBits toBits add sub mul div lt le eq neg isNan rootOf u16At u32At settingsBy vehicleBy stepInputBy recordAt headerOf outcomeOf hexOf decimalOf
 nine-marks = refl
 
 -- the answer of a check is the same with any marks that are enough
@@ -87,16 +85,14 @@ same-answer card m m′ = go (leb (records card) (length m)) (leb (records card)
     by (header.Joined j) = refl
 
     answerIf : Bool → Bool → Header → List ℕ → Checked
-    answerIf w b x l =
-        (if w then (if b then outcomeBy x card l else record { answer = checked.Refused refusal.Marks; marks = l })
-        else record { answer = checked.Refused refusal.Length; marks = l }) .answer
+    answerIf w b x l = outcomeIf w b (outcomeBy x card l) l .answer
 
     go : (b b′ w : Bool) (x : Header) → b ≡ b′ → answerIf w b x m ≡ answerIf w b′ x m′
     go true true true x e = by x
     go false false true x e = refl
     go b b′ false x e = refl
-    go true false true x e = let z : _≡_ {A = ℕ} 0 1 = cc in let none : ⊥ = omega arith in absurd none
-    go false true true x e = let z : _≡_ {A = ℕ} 0 1 = cc in let none : ⊥ = omega arith in absurd none
+    go true false true x e = impossible cc
+    go false true true x e = impossible cc
 
 nine-records : records example-card ≡ 9
 unfolding example-card

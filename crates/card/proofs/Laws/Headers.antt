@@ -3,7 +3,6 @@ use mathlib.Core.Path.{_≡_, refl, sym, _∙_}
 use mathlib.Core.Bool.{Bool, true, false}
 use mathlib.Core.List.{List}
 use Prim.Native.Nat.{ℕ}
-use native.Mathlib.Omega.{arith}
 use lib.Dec.{eqb}
 use Rattle.numbers.specs.Numbers.{if_then_else_}
 use Rattle.machines.specs.declared.InputRefusal.{InputRefusal}
@@ -21,17 +20,14 @@ use Rattle.joined.specs.Joined.{newOf}
 use Rattle.joined.proofs.Laws.Answers.{settingsVerdict, new-refused, new-taken}
 use Rattle.card.specs.Format.{kindAt, optionAt, settingsAt, headerFor, headerOf}
 use Rattle.card.specs.declared.refusal.CardRefusal.the-variants as refusal
-use Rattle.card.specs.declared.record.Header.{Header}
 use Rattle.card.specs.declared.record.Header.the-variants as header
+use Rattle.card.proofs.Laws.Cases.{impossible}
 
 pub always-three : (a : Airframe) (s : Settings) (w : InputRefusal) → newOf a s ≡ made.Refused w → refusalOf w ≡ 3
 always-three a s w e = go (settingsVerdict a s) refl
   where
     go : (v : Validity) → settingsVerdict a s ≡ v → refusalOf w ≡ 3
-    go Valid is =
-        let t = new-taken a s is in
-        let z : _≡_ {A = ℕ} 0 1 = cc (t .1) in
-        let none : ⊥ = omega arith in absurd none
+    go Valid is = impossible (cc (new-taken a s is .1))
     go (Bad field) is =
         let r : made.Refused (why.Setting field) ≡ made.Refused w = sym (new-refused a s field is) ∙ e in
         let t : w ≡ why.Setting field = cc in simp t
@@ -45,12 +41,9 @@ pub made-by : (card : List ℕ) (j : Joined) → headerOf card ≡ header.Joined
 unfolding headerOf
 made-by card j e = go (eqb (optionAt card 0) 0) (eqb (kindAt card 0) 5) (eqb (kindAt card 0) 6) e
   where
-    not : {X : Type 0} (r : Header) → r ≡ header.Joined j → (r ≡ header.Joined j → _≡_ {A = ℕ} 0 1) → X
-    not r u v = let z : _≡_ {A = ℕ} 0 1 = v u in let none : ⊥ = omega arith in absurd none
-
     by : (a : Airframe) (n : NewJoined) → newOf a (settingsAt card 0) ≡ n → headerFor n ≡ header.Joined j → Made card j
     by a (made.Joined k) is u = let same : k ≡ j = cc in record { airframe = a; new = rw same at is }
-    by a (made.Refused w) is u = not (headerFor (made.Refused w)) u (λ x. cc)
+    by a (made.Refused w) is u = impossible cc
 
     go : (b₁ b₂ b₃ : Bool)
         → (if b₁ then (if b₂ then headerFor (newOf airframe.Tailsitter (settingsAt card 0))
@@ -60,5 +53,5 @@ made-by card j e = go (eqb (optionAt card 0) 0) (eqb (kindAt card 0) 5) (eqb (ki
         → Made card j
     go true true b₃ w = by airframe.Tailsitter (newOf airframe.Tailsitter (settingsAt card 0)) refl w
     go true false true w = by airframe.Quadplane (newOf airframe.Quadplane (settingsAt card 0)) refl w
-    go true false false w = not (header.Refused refusal.KindOrOption) w (λ x. cc)
-    go false b₂ b₃ w = not (header.Refused refusal.KindOrOption) w (λ x. cc)
+    go true false false w = impossible cc
+    go false b₂ b₃ w = impossible cc

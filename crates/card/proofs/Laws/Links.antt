@@ -1,30 +1,24 @@
 -- As many links as a card has records are enough: more give the same chain, and a 9 is given just where a record already passed is met. Each link that goes on marks a record that was
 -- not marked. Assumes nothing.
-use mathlib.Core.Path.{_≡_, refl, _∙_}
+use mathlib.Core.Path.{_≡_, refl}
 use mathlib.Core.Bool.{Bool, true, false, _||_}
 use mathlib.Core.List.{List, [], _∷_}
 use Prim.Native.Nat.{ℕ, zero, suc, _+_, _<_}
 use native.Mathlib.Omega.{arith}
 use lib.Dec.{eqb, leb}
-use lib.ListN.{length}
 use borrow.Author.Tests.{eqb-true, eqb-false, leb-false}
-use Rattle.numbers.specs.Numbers.{if_then_else_}
 use Rattle.card.specs.Format.{nextAt, recordAt, isKnown}
-use Rattle.card.specs.Chain.{records, member, marked, Chain, stopped, follow, chainOf}
+use Rattle.card.specs.Chain.{records, member, marked, Chain, follow, chainOf}
 use Rattle.card.specs.declared.refusal.CardRefusal.the-variants as refusal
-use Rattle.card.specs.declared.chain.Checked.{Checked}
 use Rattle.card.specs.declared.chain.Checked.the-variants as checked
-use Rattle.card.proofs.Laws.Marks.{length-marked, mark-at, zeros, zeros-set, zeros-none}
+use Rattle.card.proofs.Laws.Cases.{impossible, followIf}
+use Rattle.card.proofs.Laws.Marks.{zeros, zeros-none, zeros-marked}
 
 fewer : {f : ℕ} (card passed : List ℕ) (link : ℕ) → zeros (marked (records card) passed) < suc f → eqb link 0 ≡ false → leb (records card) link ≡ false → member link passed ≡ false
     → zeros (marked (records card) (link ∷ passed)) < f
 fewer card passed link h e₁ e₂ e₃ =
-    let n = records card in
-    let l : link < n = leb-false n link e₂ in
     let z : link ≡ 0 → ⊥ = eqb-false link 0 e₁ in
-    let w : zeros (marked n passed) ≡ suc (zeros (marked n (link ∷ passed))) =
-    zeros-set (marked n passed) link (omega (arith, length-marked n passed)) (mark-at n passed link l (omega arith) ∙ simp e₃) in
-    omega arith
+    omega (arith, zeros-marked (records card) passed link (leb-false (records card) link e₂) (omega arith) e₃)
 
 same : (card : List ℕ) (f g : ℕ) (passed : List ℕ) (link : ℕ) → zeros (marked (records card) passed) < f → zeros (marked (records card) passed) < g
     → follow f card passed link ≡ follow g card passed link
@@ -33,19 +27,11 @@ same card (suc f) zero passed link hf hg = let none : ⊥ = omega arith in absur
 same card (suc f) (suc g) passed link hf hg =
     go (eqb link 0) (leb (records card) link) (member link passed) (isKnown (recordAt card link)) (λ k l. same card f g (link ∷ passed) (nextAt card link) k l) refl refl refl
   where
-    rest : Bool → Bool → Bool → Bool → Chain → Chain
-    rest b₁ b₂ b₃ b₄ on =
-        if b₁ then stopped (checked.Walk (length passed)) passed
-        else if b₂ then stopped (checked.Refused refusal.NextIndex) passed
-        else if b₃ then stopped (checked.Refused refusal.PassedRecord) passed
-        else if b₄ then on
-        else stopped (checked.Refused refusal.KindOrOption) passed
-
     go : (b₁ b₂ b₃ b₄ : Bool)
         → (zeros (marked (records card) (link ∷ passed)) < f → zeros (marked (records card) (link ∷ passed)) < g
         → follow f card (link ∷ passed) (nextAt card link) ≡ follow g card (link ∷ passed) (nextAt card link))
         → eqb link 0 ≡ b₁ → leb (records card) link ≡ b₂ → member link passed ≡ b₃
-        → rest b₁ b₂ b₃ b₄ (follow f card (link ∷ passed) (nextAt card link)) ≡ rest b₁ b₂ b₃ b₄ (follow g card (link ∷ passed) (nextAt card link))
+        → followIf b₁ b₂ b₃ b₄ passed (follow f card (link ∷ passed) (nextAt card link)) ≡ followIf b₁ b₂ b₃ b₄ passed (follow g card (link ∷ passed) (nextAt card link))
     go true b₂ b₃ b₄ ih e₁ e₂ e₃ = refl
     go false true b₃ b₄ ih e₁ e₂ e₃ = refl
     go false false true b₄ ih e₁ e₂ e₃ = refl
@@ -79,7 +65,7 @@ one-more card passed link inside e₁ e₂ i = go (eqb i link) refl
     go false e h = inside i h
 
 differ : {X : Type 0} {b : Bool} → b ≡ true → b ≡ false → X
-differ t f = let z : _≡_ {A = ℕ} 0 1 = cc in let none : ⊥ = omega arith in absurd none
+differ t f = impossible cc
 
 nine : (card : List ℕ) (f : ℕ) (passed : List ℕ) (link : ℕ) → link ≡ nextAt card (lastOf passed) → Inside card passed → zeros (marked (records card) passed) < f
     → NineExactly card (follow f card passed link)
@@ -91,21 +77,14 @@ nine card (suc f) passed link e inside h =
     here : meetsAgain card passed ≡ true → member link passed ≡ true
     here m = rw (← e) at m
 
-    other : {X : Type 0} {a b : Checked} → a ≡ b → (a ≡ b → _≡_ {A = ℕ} 0 1) → X
-    other u v = let z : _≡_ {A = ℕ} 0 1 = v u in let none : ⊥ = omega arith in absurd none
-
     go : (b₁ b₂ b₃ b₄ : Bool)
         → (Inside card (link ∷ passed) → zeros (marked (records card) (link ∷ passed)) < f → NineExactly card (follow f card (link ∷ passed) (nextAt card link)))
         → eqb link 0 ≡ b₁ → leb (records card) link ≡ b₂ → member link passed ≡ b₃
-        → NineExactly card (if b₁ then stopped (checked.Walk (length passed)) passed
-        else if b₂ then stopped (checked.Refused refusal.NextIndex) passed
-        else if b₃ then stopped (checked.Refused refusal.PassedRecord) passed
-        else if b₄ then follow f card (link ∷ passed) (nextAt card link)
-        else stopped (checked.Refused refusal.KindOrOption) passed)
-    go true b₂ b₃ b₄ ih e₁ e₂ e₃ = record { only = λ a. other a (λ u. cc); always = λ m. differ e₁ (inside link (here m) .0) }
-    go false true b₃ b₄ ih e₁ e₂ e₃ = record { only = λ a. other a (λ u. cc); always = λ m. differ e₂ (inside link (here m) .1) }
+        → NineExactly card (followIf b₁ b₂ b₃ b₄ passed (follow f card (link ∷ passed) (nextAt card link)))
+    go true b₂ b₃ b₄ ih e₁ e₂ e₃ = record { only = λ a. impossible cc; always = λ m. differ e₁ (inside link (here m) .0) }
+    go false true b₃ b₄ ih e₁ e₂ e₃ = record { only = λ a. impossible cc; always = λ m. differ e₂ (inside link (here m) .1) }
     go false false true b₄ ih e₁ e₂ e₃ = record { only = λ a. rw e at e₃; always = λ m. refl }
-    go false false false false ih e₁ e₂ e₃ = record { only = λ a. other a (λ u. cc); always = λ m. differ (here m) e₃ }
+    go false false false false ih e₁ e₂ e₃ = record { only = λ a. impossible cc; always = λ m. differ (here m) e₃ }
     go false false false true ih e₁ e₂ e₃ = ih (one-more card passed link inside e₁ e₂) (fewer card passed link h e₁ e₂ e₃)
 
 pub nine-exactly : (card : List ℕ) → 0 < records card → NineExactly card (chainOf card)

@@ -59,6 +59,10 @@ pub zeros-none : (n : ℕ) → 0 < n → suc (zeros (marked n [])) ≡ n
 zeros-none n h =
     sym (zeros-set (replicate n 0) 0 (simp length-replicate (omega arith)) (getD-replicate n 0 0 0 h)) ∙ zeros-replicate n
 
+-- one record more is one fewer that is not marked
+pub zeros-marked : (n : ℕ) (passed : List ℕ) (i : ℕ) → i < n → 0 < i → member i passed ≡ false → zeros (marked n passed) ≡ suc (zeros (marked n (i ∷ passed)))
+zeros-marked n passed i h z e = zeros-set (marked n passed) i (omega (arith, length-marked n passed)) (mark-at n passed i h z ∙ simp e)
+
 -- the marks past those of the records stay
 pub rest-kept : (n : ℕ) (passed m₀ m : List ℕ) → m ≡ marked n passed ++ drop n m₀ → drop n m ≡ drop n m₀
 rest-kept n passed m₀ m e = ap (drop n) e ∙ drop-at (marked n passed) (drop n m₀) n (length-marked n passed)

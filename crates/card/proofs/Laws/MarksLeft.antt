@@ -12,10 +12,9 @@ use Rattle.numbers.specs.Numbers.{if_then_else_}
 use Rattle.card.specs.Bytes.{byteAt}
 use Rattle.card.specs.Format.{headerOf}
 use Rattle.card.specs.Chain.{whole, records, member, chainOf, marked, outcomeBy, outcomeOf}
-use Rattle.card.specs.declared.refusal.CardRefusal.the-variants as refusal
 use Rattle.card.specs.declared.record.Header.{Header}
 use Rattle.card.specs.declared.record.Header.the-variants as header
-use Rattle.card.specs.declared.chain.Checked.the-variants as checked
+use Rattle.card.proofs.Laws.Cases.{outcomeIf}
 use Rattle.card.proofs.Laws.Marks.{length-marked, mark-at}
 use Rattle.card.proofs.Laws.Walk.{least}
 
@@ -79,7 +78,6 @@ pub kept-on-marks : (card m : List ℕ) → leb (records card) (length m) ≡ fa
 unfolding outcomeOf
 kept-on-marks card m r = go (whole (length card))
   where
-    go : (b : Bool) → (if b then (if leb (records card) (length m) then outcomeBy (headerOf card) card m else record { answer = checked.Refused refusal.Marks; marks = m })
-        else record { answer = checked.Refused refusal.Length; marks = m }) .marks ≡ m
+    go : (b : Bool) → outcomeIf b (leb (records card) (length m)) (outcomeBy (headerOf card) card m) m .marks ≡ m
     go true = simp r
     go false = refl

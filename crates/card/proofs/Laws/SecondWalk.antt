@@ -7,7 +7,6 @@ use native.Mathlib.Omega.{arith}
 use lib.Dec.{eqb, leb}
 use lib.ListN.{length}
 use borrow.Author.Tests.{leb-false}
-use Rattle.numbers.specs.Numbers.{if_then_else_}
 use Rattle.joined.specs.declared.joined.Joined.{Joined}
 use Rattle.joined.specs.List.{after}
 use Rattle.card.specs.Format.{nextAt, recordAt, isKnown, headerOf}
@@ -19,6 +18,7 @@ use Rattle.card.specs.declared.refusal.CardRefusal.the-variants as refus
 use Rattle.card.specs.declared.record.Header.{Header}
 use Rattle.card.specs.declared.record.Header.the-variants as header
 use Rattle.card.specs.declared.chain.Checked.the-variants as checked
+use Rattle.card.proofs.Laws.Cases.{impossible, followIf, outcomeIf}
 use Rattle.card.proofs.Laws.Walk.{most}
 use Rattle.card.proofs.Laws.Written.{both}
 use Rattle.card.proofs.Laws.Calls.{after-more, lines-more}
@@ -26,9 +26,7 @@ use Rattle.card.proofs.Laws.Calls.{after-more, lines-more}
 module _ (card : List ℕ) (chain : Chain) (count : ℕ) (walk : chain .answer ≡ checked.Walk count) where
   not-refused : {X : Type 0} (why : CardRefusal) (passed : List ℕ) → stopped (checked.Refused why) passed ≡ chain → X
   not-refused why passed e =
-      let r : checked.Refused why ≡ checked.Walk count = ap (λ (x : Chain). x .answer) e ∙ walk in
-      let z : _≡_ {A = ℕ} 0 1 = cc in
-      let none : ⊥ = omega arith in absurd none
+      let r : checked.Refused why ≡ checked.Walk count = ap (λ (x : Chain). x .answer) e ∙ walk in impossible cc
 
   ended : (passed : List ℕ) → stopped (checked.Walk (length passed)) passed ≡ chain → length passed ≡ count
   ended passed e =
@@ -43,12 +41,7 @@ module _ (card : List ℕ) (chain : Chain) (count : ℕ) (walk : chain .answer �
   turn {X} (suc l) passed link e done on = go (eqb link 0) (leb (records card) link) (member link passed) (isKnown (recordAt card link)) refl refl e
     where
       go : (b₁ b₂ b₃ b₄ : Bool) → leb (records card) link ≡ b₂ → isKnown (recordAt card link) ≡ b₄
-          → (if b₁ then stopped (checked.Walk (length passed)) passed
-          else if b₂ then stopped (checked.Refused refusal.NextIndex) passed
-          else if b₃ then stopped (checked.Refused refusal.PassedRecord) passed
-          else if b₄ then follow l card (link ∷ passed) (nextAt card link)
-          else stopped (checked.Refused refusal.KindOrOption) passed) ≡ chain
-          → X
+          → followIf b₁ b₂ b₃ b₄ passed (follow l card (link ∷ passed) (nextAt card link)) ≡ chain → X
       go true b₂ b₃ b₄ e₂ e₄ w = done w
       go false true b₃ b₄ e₂ e₄ w = not-refused refusal.NextIndex passed w
       go false false true b₄ e₂ e₄ w = not-refused refusal.PassedRecord passed w
@@ -163,15 +156,8 @@ pub found : (card m : List ℕ) (count : ℕ) → checked.Walk count ≡ outcome
 unfolding outcomeOf
 found card m count e = go (whole (length card)) (leb (records card) (length m)) (headerOf card) refl refl e
   where
-    not : {X : Type 0} (why : CardRefusal) → checked.Walk count ≡ checked.Refused why → X
-    not why u = let z : _≡_ {A = ℕ} 0 1 = cc in let none : ⊥ = omega arith in absurd none
-
-    go : (b₁ b₂ : Bool) (h : Header) → whole (length card) ≡ b₁ → headerOf card ≡ h
-        → checked.Walk count
-        ≡ (if b₁ then (if b₂ then outcomeBy h card m else record { answer = checked.Refused refusal.Marks; marks = m })
-        else record { answer = checked.Refused refusal.Length; marks = m }) .answer
-        → Found card count
+    go : (b₁ b₂ : Bool) (h : Header) → whole (length card) ≡ b₁ → headerOf card ≡ h → checked.Walk count ≡ outcomeIf b₁ b₂ (outcomeBy h card m) m .answer → Found card count
     go true true (header.Joined j) l k w = record { whole-card = l; machine = j; header-joined = k; walk = sym w }
-    go true true (header.Refused why) l k w = not why w
-    go true false h l k w = not refusal.Marks w
-    go false b₂ h l k w = not refusal.Length w
+    go true true (header.Refused why) l k w = impossible cc
+    go true false h l k w = impossible cc
+    go false b₂ h l k w = impossible cc

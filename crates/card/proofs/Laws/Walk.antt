@@ -16,7 +16,8 @@ use Rattle.card.specs.Chain.{records, whole, member, marked, Chain, stop
 use Rattle.card.specs.declared.refusal.CardRefusal.the-variants as refusal
 use Rattle.card.specs.declared.chain.Checked.{Checked}
 use Rattle.card.specs.declared.chain.Checked.the-variants as checked
-use Rattle.card.proofs.Laws.Marks.{length-marked, mark-at, zeros, zeros-set, zeros-le, zeros-none}
+use Rattle.card.proofs.Laws.Cases.{impossible}
+use Rattle.card.proofs.Laws.Marks.{length-marked, mark-at, zeros, zeros-set, zeros-le, zeros-none, zeros-marked}
 
 -- before the link to `link`, with `count` records passed and the marks m, which were m₀
 pub record Walking (card m₀ m : List ℕ) (n link count : ℕ) : Type 0 where
@@ -90,11 +91,6 @@ module _ {card m₀ m : List ℕ} {n link count : ℕ} (g : Walking card m₀ m 
         pub fewer : zeros (set m link 1) < zeros m
         fewer = omega (arith, zeros-set m link (omega (arith, g .room)) unmarked)
 
-        fewer-left : zeros (marked n (g .passed)) ≡ suc (zeros (marked n (link ∷ g .passed)))
-        fewer-left =
-            zeros-set (marked n (g .passed)) link (omega (arith, length-marked n (g .passed)))
-            (mark-at n (g .passed) link h (omega arith) ∙ simp fresh)
-
         pub turn : isKnown (recordAt card link) ≡ true → Walking card m₀ (set m link 1) n (nextAt card link) (count + 1)
         turn b =
             record {
@@ -107,8 +103,7 @@ module _ {card m₀ m : List ℕ} {n link count : ℕ} (g : Walking card m₀ m 
                   ap (λ (l : List ℕ). set l link 1) (g .marks)
                   ∙ set-append-left (marked n (g .passed)) (drop n m₀) link 1 (omega (arith, length-marked n (g .passed)));
               counted = add-one count ∙ ap suc (g .counted);
-              rest =
-                  sym (simp (← (g .all), ne-eqb _ _ on, lt-leb _ _ h, fresh, b, fewer-left)) ∙ g .rest;
+              rest = sym (simp (← (g .all), ne-eqb _ _ on, lt-leb _ _ h, fresh, b, zeros-marked n (g .passed) link h (omega arith) fresh)) ∙ g .rest;
             }
 
 -- ---- a whole card has a header, and at most 800 records
@@ -118,7 +113,7 @@ left false b e = e
 
 right : (a b : Bool) → (a && b) ≡ true → b ≡ true
 right true b e = e
-right false b e = let z : _≡_ {A = ℕ} 0 1 = cc in let none : ⊥ = omega arith in absurd none
+right false b e = impossible cc
 
 pub least : (n : ℕ) → whole n ≡ true → 80 ≤ n
 least n h = leb-true 80 n (left (leb 80 n) _ h)

@@ -37,7 +37,7 @@ use Rattle.joined.specs.Machine.{isToPlane, transitionConfigOf, liftTran
 use Rattle.joined.specs.Joined.{newOf, primeOf, stepOf, cutOf, setOf}
 use Rattle.joined.specs.List.{Binary32Settings, Binary32Calls, after, modeAt, abandonmentAt, planeMinHeightOf, isAcceptedStep, isAccepted, asksCopter, abandons}
 use Rattle.joined.proofs.Laws.Effects.{foundIn, StepEffect, denied, rolls, flies, step-effects, cut-machine}
-use Rattle.joined.proofs.Laws.Moves.{gateAt, moving-state, found-z, found-plane-minimum, cut-state}
+use Rattle.joined.proofs.Laws.Moves.{gateAt, after-row, heights, after-cut}
 use Rattle.joined.proofs.Laws.History.{Flight}
 use Rattle.joined.proofs.Laws.Ranges.{new-ranges}
 use Rattle.joined.proofs.Laws.Every.{new, history-of}
@@ -120,7 +120,7 @@ module _ (j k : Joined) (why : ModeRefusal) (to : k .machine ≡ cutMachineOf (j
   -- what is held after it
   cut-holds : (at : FlightMode) → modeAt j ≡ at → abandonmentAt k ≡ cutIn at (stateIn (j .machine)) why .state .gate .abandoned
   cut-holds at em =
-      ap (λ (m : Machine). stateIn m .gate .abandoned) to ∙ ap (λ (s : TransitionState). s .gate .abandoned) (cut-state (j .machine) why)
+      ap (λ (m : Machine). stateIn m .gate .abandoned) to ∙ ap (λ (s : TransitionState). s .gate .abandoned) (after-cut (j .machine) why .state)
       ∙ ap (λ (m : FlightMode). cutIn m (stateIn (j .machine)) why .state .gate .abandoned) em
 
   cut-abandons : (at : FlightMode) → modeAt j ≡ at → Free at (abandonmentAt j) → fresh (abandonmentAt j) (abandonmentAt k) ≡ isToPlane at
@@ -201,8 +201,8 @@ module _ (j : Joined) (i : StepInput) where
       → rowAbandons at (i .requested) (begin (stateIn (j .machine)) (i .dt)) (foundIn (j .machine) i) ≡ stepAbandons at j i
   by-row level mode.ToPlane = sym (ap (λ (b : Bool). b || timesOut (i .requested) (foundIn (j .machine) i)) level)
   by-row level mode.Plane =
-      ap (λ (z : Float). trips (i .requested) (floorTrips (gateAt j) z (foundIn (j .machine) i .planeMinHeight))) (found-z (j .machine) i)
-      ∙ ap (λ (least : Float). trips (i .requested) (floorTrips (gateAt j) (i .state .«z_m») least)) (found-plane-minimum (j .machine) i)
+      ap (λ (z : Float). trips (i .requested) (floorTrips (gateAt j) z (foundIn (j .machine) i .planeMinHeight))) (heights (j .machine) i .z)
+      ∙ ap (λ (least : Float). trips (i .requested) (floorTrips (gateAt j) (i .state .«z_m») least)) (heights (j .machine) i .plane-minimum)
   by-row level mode.Copter = refl
   by-row level mode.ToCopter = refl
 
@@ -215,7 +215,7 @@ module _ (j : Joined) (i : StepInput) where
       let begun = begin (stateIn (j .machine)) (i .dt) in
       let found = foundIn (j .machine) i in
       ap (λ (m : Machine). fresh (abandonmentAt j) (stateIn m .gate .abandoned)) to
-      ∙ ap (λ (s : TransitionState). fresh (abandonmentAt j) (s .gate .abandoned)) (moving-state (j .machine) i)
+      ∙ ap (λ (s : TransitionState). fresh (abandonmentAt j) (s .gate .abandoned)) (after-row (j .machine) i .state)
       ∙ row-abandons begun found (modeAt j) (i .requested) free ∙ by-row level (modeAt j) ∙ sym (accepted a)
 
 -- ---- any call, where none is held in ToPlane and Plane

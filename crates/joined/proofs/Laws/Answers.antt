@@ -5,6 +5,7 @@ use mathlib.Core.Bool.{Bool, true, false, not}
 use mathlib.Core.List.{List, [], _∷_}
 use mathlib.Core.Option.{Option, some, none}
 use Prim.Native.Nat.{ℕ, suc}
+use native.Mathlib.Omega.{arith}
 use lib.Dec.{T}
 use lib.Ieee.{Float}
 use Rattle.numbers.specs.Numbers.{if_then_else_}
@@ -20,10 +21,7 @@ use Rattle.machines.specs.declared.settings.Validity.{Validity}
 use Rattle.machines.specs.declared.settings.Validity.the-variants.{Valid, Bad}
 use Rattle.machines.specs.declared.handoff.ThrustHandoff.{ThrustHandoff}
 use Rattle.machines.specs.declared.handoff.ThrustAnswer.the-variants as thrust
-use Rattle.machines.specs.Settings.{transitionValidity, liftValidity}
 use Rattle.machines.specs.Thrust.{activeOf, later, blendOf, applyOf}
-use Rattle.machines.specs.Transition as tailsitter
-use Rattle.machines.specs.Lift as quadplane
 use Rattle.joined.specs.declared.settings.Settings.{Settings}
 use Rattle.joined.specs.declared.call.StepInput.{StepInput}
 use Rattle.joined.specs.declared.call.Call.{Call}
@@ -38,13 +36,12 @@ use Rattle.joined.specs.declared.machine.Machine.the-variants as machine
 use Rattle.joined.specs.declared.machine.MachineUpdate.{MachineUpdate}
 use Rattle.joined.specs.declared.joined.Joined.{Joined}
 use Rattle.joined.specs.declared.joined.JoinedUpdate.{JoinedUpdate}
-use Rattle.joined.specs.declared.joined.NewJoined.{NewJoined}
 use Rattle.joined.specs.declared.joined.NewJoined.the-variants as made
-use Rattle.joined.specs.Machine.{airframeOf, transitionConfigOf, liftTransitionConfigOf, newTailsitter, newQuadplane}
+use Rattle.joined.specs.Machine.{airframeOf}
 use Rattle.joined.specs.Machine.{primeMachineOf, setMachineOf, updateMachineOf, cutMachineOf, pastRollLimitOf}
-use Rattle.joined.specs.Joined.{newIf, newOf, steppedIf, cutOr, stepIf, stepBy, stepOf, primedIf, primeOf, cutIf, cutOf, setIf, setOf, callOf}
+use Rattle.joined.specs.Joined.{newOf, refusedBy, steppedIf, cutOr, stepIf, stepBy, stepOf, primedIf, primeOf, cutIf, cutOf, setIf, setOf, callOf}
 use Rattle.joined.specs.List.{isAcceptedStep, isAccepted}
-use Rattle.joined.proofs.Laws.Effects.{moving, badTilt, update-late, update-tilted, update-taken, HasStep, moving-step, cut-step, accepted-step}
+use Rattle.joined.proofs.Laws.Effects.{moving, badTilt, update-late, update-tilted, update-taken, HasStep, moving-step, cut-step, accepted-step, validityIn, setting, set-good, set-bad, newBy, new-by}
 use Rattle.joined.proofs.Laws.RangesSettings.{tested, tailsitterTests, quadplaneTests}
 
 -- ---- what section 9 turns down
@@ -91,12 +88,8 @@ HasLine a = (line : Line) × (a ≡ answer.Line line)
 -- ---- arms that are never met
 
 -- a machine's step is no refusal
-abbrev IsStep : TransitionAnswer → Type 0
-IsStep (moved.Step s) = Unit {0}
-IsStep (moved.Refused why) = ⊥
-
 no-refusal : (u : MachineUpdate) → HasStep u → (why : InputRefusal) → u .answer ≡ moved.Refused why → ⊥
-no-refusal u h why e = subst IsStep (sym (h .1) ∙ e) tt
+no-refusal u h why e = let z : _≡_ {A = ℕ} 0 1 = cc (h .1) in omega arith
 
 -- in a prime and in a cut
 prime-step : (m : Machine) (z : Float) → HasStep (primeMachineOf m z)
@@ -130,29 +123,25 @@ apply-thrust h dt demand p = by (activeOf h) refl
 
 -- ---- a refused call leaves the state
 
--- a line is no refusal
-abbrev IsLine : Answer → Type 0
-IsLine (answer.Line line) = Unit {0}
-IsLine (answer.Refused why) = ⊥
-
+-- an update u of the state j
 abbrev Leaves : Joined → JoinedUpdate → Type 0
 Leaves j u = (why : InputRefusal) → u .answer ≡ answer.Refused why → u .joined ≡ j
 
 primed-leaves : (a : TransitionAnswer) (j : Joined) (m : Machine) → Leaves j (primedIf a j m)
 primed-leaves (moved.Refused x) j m why e = refl
-primed-leaves (moved.Step s) j m why e = absurd (subst IsLine e tt)
+primed-leaves (moved.Step s) j m why e = cc
 
 cut-leaves : (a : TransitionAnswer) (j : Joined) (m : Machine) → Leaves j (cutIf a j m)
 cut-leaves (moved.Refused x) j m why e = refl
-cut-leaves (moved.Step s) j m why e = absurd (subst IsLine e tt)
+cut-leaves (moved.Step s) j m why e = cc
 
 set-leaves : (a : TransitionAnswer) (j : Joined) (m : Machine) → Leaves j (setIf a j m)
 set-leaves (moved.Refused x) j m why e = refl
-set-leaves (moved.Step s) j m why e = absurd (subst IsLine e tt)
+set-leaves (moved.Step s) j m why e = cc
 
 flown-leaves : (a : TransitionAnswer) (j : Joined) (m : Machine) (i : StepInput) → Leaves j (steppedIf a j m i)
 flown-leaves (moved.Refused x) j m i why e = refl
-flown-leaves (moved.Step s) j m i why e = absurd (subst IsLine e tt)
+flown-leaves (moved.Step s) j m i why e = cc
 
 step-leaves : (a : TransitionAnswer) (u : MachineUpdate) (j : Joined) (i : StepInput) → Leaves j (stepIf a u j i)
 step-leaves (moved.Refused x) u j i why e = refl
@@ -172,11 +161,11 @@ pub cut-taken : (j : Joined) (why : ModeRefusal) → HasLine (cutOf j why .answe
 cut-taken j why = let u = cutMachineOf (j .machine) why in (_, ap (λ (a : TransitionAnswer). cutIf a j (u .machine) .answer) (cut-step (j .machine) why .1))
 
 -- ---- a step is refused by 1, else by 2, else not at all
-pub step-late : (j : Joined) (i : StepInput) → positive (i .dt) ≡ false → stepOf j i .answer ≡ answer.Refused TimeStep
-step-late j i late = ap (λ (u : MachineUpdate). stepBy u j i .answer) (update-late (j .machine) i late)
+pub step-late : (j : Joined) (i : StepInput) → positive (i .dt) ≡ false → stepOf j i ≡ refusedBy j TimeStep
+step-late j i late = ap (λ (u : MachineUpdate). stepBy u j i) (update-late (j .machine) i late)
 
-pub step-tilted : (j : Joined) (i : StepInput) → positive (i .dt) ≡ true → badTilt (j .machine) i ≡ true → stepOf j i .answer ≡ answer.Refused EntryTilt
-step-tilted j i p tilted = ap (λ (u : MachineUpdate). stepBy u j i .answer) (update-tilted (j .machine) i p tilted)
+pub step-tilted : (j : Joined) (i : StepInput) → positive (i .dt) ≡ true → badTilt (j .machine) i ≡ true → stepOf j i ≡ refusedBy j EntryTilt
+step-tilted j i p tilted = ap (λ (u : MachineUpdate). stepBy u j i) (update-tilted (j .machine) i p tilted)
 
 pub step-taken : (j : Joined) (i : StepInput) → positive (i .dt) ≡ true → badTilt (j .machine) i ≡ false → HasLine (stepOf j i .answer)
 step-taken j i p fine =
@@ -188,22 +177,17 @@ step-taken j i p fine =
     )
 
 -- so an accepted one has a dt that is positive and finite, and its handoff a thrust
-pub accepted-positive : (j : Joined) (i : StepInput) → T (isAcceptedStep j (call.Step i)) → positive (i .dt) ≡ true
+accepted-positive : (j : Joined) (i : StepInput) → T (isAcceptedStep j (call.Step i)) → positive (i .dt) ≡ true
 accepted-positive j i a = by (positive (i .dt)) refl
   where
     by : (b : Bool) → positive (i .dt) ≡ b → b ≡ true
     by true e = refl
-    by false e = absurd (subst (λ (x : Answer). T (isAccepted x)) (step-late j i e) a)
+    by false e = absurd (subst (λ (u : JoinedUpdate). T (isAccepted (u .answer))) (step-late j i e) a)
 
 pub accepted-thrust : (j : Joined) (i : StepInput) → T (isAcceptedStep j (call.Step i)) → (h : ThrustHandoff) → (x : Float) × (applyOf h (i .dt) (i .demand) .answer ≡ thrust.Thrust x)
 accepted-thrust j i a h = apply-thrust h (i .dt) (i .demand) (accepted-positive j i a)
 
 -- ---- settings are refused by 3 with the first bad field, else not at all
-
--- the verdict of an airframe's definition
-abbrev validityIn : Airframe → Settings → Validity
-validityIn airframe.Tailsitter s = transitionValidity (transitionConfigOf s)
-validityIn airframe.Quadplane s = liftValidity (liftTransitionConfigOf s)
 
 -- a bad field stands
 bad-stands : (field n : ℕ) (rest : List Bool) → tested (Bad field) n rest ≡ Bad field
@@ -219,41 +203,28 @@ first-bad : (a : Airframe) (s : Settings) → validityIn a s ≡ settingsVerdict
 first-bad airframe.Tailsitter s = first-stands 1 (tailsitterTests s)
 first-bad airframe.Quadplane s = first-stands 1 (quadplaneTests s)
 
--- a machine, by that verdict
-set-bad : (m : Machine) (s : Settings) (field : ℕ) → validityIn (airframeOf m) s ≡ Bad field → setMachineOf m s .answer ≡ moved.Refused (Setting field)
-set-bad (machine.Tailsitter m) s field bad = ap (λ (v : Validity). tailsitter.configIf v m (transitionConfigOf s) .answer) bad
-set-bad (machine.Quadplane m) s field bad = ap (λ (v : Validity). quadplane.configIf v m (liftTransitionConfigOf s) .answer) bad
-
-set-step : (m : Machine) (s : Settings) → validityIn (airframeOf m) s ≡ Valid → HasStep (setMachineOf m s)
-set-step (machine.Tailsitter m) s valid = (_, ap (λ (v : Validity). tailsitter.configIf v m (transitionConfigOf s) .answer) valid)
-set-step (machine.Quadplane m) s valid = (_, ap (λ (v : Validity). quadplane.configIf v m (liftTransitionConfigOf s) .answer) valid)
-
 pub set-refused : (j : Joined) (s : Settings) (field : ℕ) → settingsVerdict (airframeOf (j .machine)) s ≡ Bad field → setOf j s .answer ≡ answer.Refused (Setting field)
-set-refused j s field bad =
-    ap (λ (a : TransitionAnswer). setIf a j (setMachineOf (j .machine) s .machine) .answer) (set-bad (j .machine) s field (first-bad (airframeOf (j .machine)) s ∙ bad))
+set-refused j s field bad = ap (λ (u : MachineUpdate). setIf (u .answer) j (u .machine) .answer) (set-bad (j .machine) s field (first-bad (airframeOf (j .machine)) s ∙ bad))
+
+setting-line : (j : Joined) (m : Machine) (s : Settings) → HasLine (setIf (setting m s .answer) j (setting m s .machine) .answer)
+setting-line j (machine.Tailsitter m) s = (_, refl)
+setting-line j (machine.Quadplane m) s = (_, refl)
 
 pub set-taken : (j : Joined) (s : Settings) → settingsVerdict (airframeOf (j .machine)) s ≡ Valid → HasLine (setOf j s .answer)
 set-taken j s valid =
-    (_, ap (λ (a : TransitionAnswer). setIf a j (setMachineOf (j .machine) s .machine) .answer) (set-step (j .machine) s (first-bad (airframeOf (j .machine)) s ∙ valid) .1))
+    subst (λ (u : MachineUpdate). HasLine (setIf (u .answer) j (u .machine) .answer)) (sym (set-good (j .machine) s (first-bad (airframeOf (j .machine)) s ∙ valid)))
+    (setting-line j (j .machine) s)
 
 -- ---- and so are those of a new machine
-abbrev newBy : Airframe → Settings → Validity → NewJoined
-newBy airframe.Tailsitter s v = newIf (newTailsitter (tailsitter.newIf v (transitionConfigOf s)))
-newBy airframe.Quadplane s v = newIf (newQuadplane (quadplane.newIf v (liftTransitionConfigOf s)))
-
-new-by : (a : Airframe) (s : Settings) → newOf a s ≡ newBy a s (settingsVerdict a s)
-new-by airframe.Tailsitter s = ap (newBy airframe.Tailsitter s) (first-bad airframe.Tailsitter s)
-new-by airframe.Quadplane s = ap (newBy airframe.Quadplane s) (first-bad airframe.Quadplane s)
-
 pub new-refused : (a : Airframe) (s : Settings) (field : ℕ) → settingsVerdict a s ≡ Bad field → newOf a s ≡ made.Refused (Setting field)
-new-refused a s field bad = new-by a s ∙ ap (newBy a s) bad ∙ by a
+new-refused a s field bad = new-by a s ∙ ap (newBy a s) (first-bad a s ∙ bad) ∙ by a
   where
     by : (a : Airframe) → newBy a s (Bad field) ≡ made.Refused (Setting field)
     by airframe.Tailsitter = refl
     by airframe.Quadplane = refl
 
 pub new-taken : (a : Airframe) (s : Settings) → settingsVerdict a s ≡ Valid → (j : Joined) × (newOf a s ≡ made.Joined j)
-new-taken a s valid = let j = by a in (j .0, new-by a s ∙ ap (newBy a s) valid ∙ j .1)
+new-taken a s valid = let j = by a in (j .0, new-by a s ∙ ap (newBy a s) (first-bad a s ∙ valid) ∙ j .1)
   where
     by : (a : Airframe) → (j : Joined) × (newBy a s Valid ≡ made.Joined j)
     by airframe.Tailsitter = (_, refl)
@@ -266,8 +237,8 @@ turned-down j (call.Cut why) = ap refusalIn (cut-taken j why .1)
 turned-down j (call.Step i) = by (positive (i .dt)) (badTilt (j .machine) i) refl refl
   where
     by : (p bad : Bool) → positive (i .dt) ≡ p → badTilt (j .machine) i ≡ bad → refusalIn (stepOf j i .answer) ≡ stepRefusal (j .machine) i
-    by false bad e f = ap refusalIn (step-late j i e) ∙ simp (e)
-    by true true e f = ap refusalIn (step-tilted j i e f) ∙ simp (e, f)
+    by false bad e f = ap (λ (u : JoinedUpdate). refusalIn (u .answer)) (step-late j i e) ∙ simp (e)
+    by true true e f = ap (λ (u : JoinedUpdate). refusalIn (u .answer)) (step-tilted j i e f) ∙ simp (e, f)
     by true false e f = ap refusalIn (step-taken j i e f .1) ∙ simp (e, f)
 turned-down j (call.Settings s) = by (settingsVerdict (airframeOf (j .machine)) s) refl
   where

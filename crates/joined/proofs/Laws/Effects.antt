@@ -1,17 +1,18 @@
--- What one call does to a joined machine, whatever the airframe: it is refused, sets, primes, cuts or moves by a row. EachCall case says what becomes of the state that both
--- machines hold. It follows the definitions of section 6 case by case. Assumes nothing.
+-- What one call does to a joined machine, whatever the airframe: it is refused, sets, primes, cuts or moves by a row. Each case says what becomes of the state that both
+-- machines hold. And what an accepted new machine is. It follows the definitions of section 6 case by case. Assumes nothing.
 use mathlib.Core.Path.{_≡_, refl, sym, ap, _∙_, subst}
 use mathlib.Core.Bool.{Bool, true, false, not}
 use mathlib.Core.Logic.{_⊎_, inl, inr}
+use Prim.Native.Nat.{ℕ}
 use lib.Dec.{T}
 use lib.Ieee.{Float}
-use Rattle.numbers.specs.Numbers.{if_then_else_}
+use Rattle.numbers.specs.Numbers.{if_then_else_, zero32}
 use Rattle.numbers.specs.Ranges.{positive}
 use Rattle.numbers.specs.Vectors.{noseUpOf}
 use Rattle.machines.specs.declared.ModeRefusal.{ModeRefusal}
 use Rattle.machines.specs.declared.ModeRefusal.the-variants.{RollError}
 use Rattle.machines.specs.declared.InputRefusal.{InputRefusal}
-use Rattle.machines.specs.declared.InputRefusal.the-variants.{TimeStep, EntryTilt}
+use Rattle.machines.specs.declared.InputRefusal.the-variants.{TimeStep, EntryTilt, Setting}
 use Rattle.machines.specs.declared.answer.TransitionStep.{TransitionStep}
 use Rattle.machines.specs.declared.answer.TransitionAnswer.the-variants as moved
 use Rattle.machines.specs.declared.settings.Validity.{Validity}
@@ -20,20 +21,25 @@ use Rattle.machines.specs.declared.lift.RampStart.{RampStart}
 use Rattle.machines.specs.declared.lift.RampStart.the-variants.{Waiting}
 use Rattle.machines.specs.declared.rows.Moved.{Moved}
 use Rattle.machines.specs.Settings.{transitionValidity, liftValidity}
-use Rattle.machines.specs.Rows.{Found, begin, rowOf, primedState}
+use Rattle.machines.specs.Rows.{Found, begin, rowOf, newState, primedState}
 use Rattle.machines.specs.Transition as tailsitter
 use Rattle.machines.specs.Lift as quadplane
 use Rattle.joined.specs.declared.settings.Settings.{Settings}
 use Rattle.joined.specs.declared.call.StepInput.{StepInput}
 use Rattle.joined.specs.declared.call.Call.{Call}
 use Rattle.joined.specs.declared.call.Call.the-variants as call
+use Rattle.joined.specs.declared.machine.Airframe.{Airframe}
+use Rattle.joined.specs.declared.machine.Airframe.the-variants as airframe
 use Rattle.joined.specs.declared.machine.Machine.{Machine}
 use Rattle.joined.specs.declared.machine.Machine.the-variants as machine
 use Rattle.joined.specs.declared.machine.MachineUpdate.{MachineUpdate}
 use Rattle.joined.specs.declared.joined.Joined.{Joined}
 use Rattle.joined.specs.declared.joined.JoinedUpdate.{JoinedUpdate}
-use Rattle.joined.specs.Machine.{airframeOf, transitionConfigOf, liftTransitionConfigOf, stateIn, ofTransition, ofLift, updateMachineOf, cutMachineOf, pastRollLimitOf}
-use Rattle.joined.specs.Joined.{refusedBy, steppedIf, steppedBy, cutOr, stepIf, stepBy, stepOf, cutIf, setOf, callOf}
+use Rattle.joined.specs.declared.joined.NewJoined.{NewJoined}
+use Rattle.joined.specs.declared.joined.NewJoined.the-variants as made
+use Rattle.joined.specs.Machine.{airframeOf, transitionConfigOf, liftTransitionConfigOf, stateIn, ofTransition, ofLift, newTailsitter, newQuadplane}
+use Rattle.joined.specs.Machine.{setMachineOf, updateMachineOf, cutMachineOf, pastRollLimitOf}
+use Rattle.joined.specs.Joined.{initial, newIf, newOf, refusedBy, steppedIf, steppedBy, cutOr, stepIf, stepBy, stepOf, cutIf, setIf, setOf, callOf}
 use Rattle.joined.specs.List.{isPrime, isAcceptedStep, isAccepted}
 
 -- ---- a machine
@@ -157,19 +163,42 @@ step-effect j i (denied why e) = refuses (subst (λ (u : JoinedUpdate). T (not (
 step-effect j i (rolls a f to) = cuts RollError (inr refl) tt to
 step-effect j i (flies a f p to) = moves i refl (subst T (sym a) tt) p to
 
--- ---- settings
+-- ---- settings, by the verdict of the airframe's definition
+abbrev pub validityIn : Airframe → Settings → Validity
+validityIn airframe.Tailsitter s = transitionValidity (transitionConfigOf s)
+validityIn airframe.Quadplane s = liftValidity (liftTransitionConfigOf s)
 
-set-effect : (j : Joined) (s : Settings) (m : Machine) → j .machine ≡ m → Effect j (call.Settings s) (setOf j s .joined)
-set-effect j s (machine.Tailsitter m) e = by (transitionValidity (transitionConfigOf s)) refl
+-- a machine takes them
+abbrev pub setting : Machine → Settings → MachineUpdate
+setting (machine.Tailsitter m) s = ofTransition (tailsitter.configIf Valid m (transitionConfigOf s))
+setting (machine.Quadplane m) s = ofLift (quadplane.configIf Valid m (liftTransitionConfigOf s))
+
+pub set-good : (m : Machine) (s : Settings) → validityIn (airframeOf m) s ≡ Valid → setMachineOf m s ≡ setting m s
+set-good (machine.Tailsitter m) s e = simp e
+set-good (machine.Quadplane m) s e = simp e
+
+-- or names the bad field
+pub set-bad : (m : Machine) (s : Settings) (field : ℕ) → validityIn (airframeOf m) s ≡ Bad field → setMachineOf m s ≡ record { machine = m; answer = moved.Refused (Setting field) }
+set-bad (machine.Tailsitter m) s field e = simp e
+set-bad (machine.Quadplane m) s field e = simp e
+
+-- what holds of both holds of what it does
+pub set-cases : (P : MachineUpdate → Type 0) (m : Machine) (s : Settings) → (validityIn (airframeOf m) s ≡ Valid → P (setting m s))
+    → ((field : ℕ) → P (record { machine = m; answer = moved.Refused (Setting field) })) → P (setMachineOf m s)
+set-cases P m s good bad = by (validityIn (airframeOf m) s) refl
   where
-    by : (v : Validity) → transitionValidity (transitionConfigOf s) ≡ v → Effect j (call.Settings s) (setOf j s .joined)
-    by Valid f = sets tt tt (simp (e, f)) (simp (e, f)) (simp (e, f))
-    by (Bad n) f = refuses tt tt (simp (e, f))
-set-effect j s (machine.Quadplane m) e = by (liftValidity (liftTransitionConfigOf s)) refl
-  where
-    by : (v : Validity) → liftValidity (liftTransitionConfigOf s) ≡ v → Effect j (call.Settings s) (setOf j s .joined)
-    by Valid f = sets tt tt (simp (e, f)) (simp (e, f)) (simp (e, f))
-    by (Bad n) f = refuses tt tt (simp (e, f))
+    by : (v : Validity) → validityIn (airframeOf m) s ≡ v → P (setMachineOf m s)
+    by Valid e = subst P (sym (set-good m s e)) (good e)
+    by (Bad field) e = subst P (sym (set-bad m s field e)) (bad field)
+
+setting-effect : (j : Joined) (s : Settings) (m : Machine) → j .machine ≡ m → Effect j (call.Settings s) (setIf (setting m s .answer) j (setting m s .machine) .joined)
+setting-effect j s (machine.Tailsitter m) e = sets tt tt (ap stateIn (sym e)) (ap rampStartIn (sym e)) (ap airframeOf (sym e))
+setting-effect j s (machine.Quadplane m) e = sets tt tt (ap stateIn (sym e)) (ap rampStartIn (sym e)) (ap airframeOf (sym e))
+
+set-effect : (j : Joined) (s : Settings) → Effect j (call.Settings s) (setOf j s .joined)
+set-effect j s =
+    set-cases (λ (u : MachineUpdate). Effect j (call.Settings s) (setIf (u .answer) j (u .machine) .joined)) (j .machine) s (λ e. setting-effect j s (j .machine) refl)
+    (λ field. refuses tt tt refl)
 
 -- ---- the others
 
@@ -187,4 +216,28 @@ pub effect : (j : Joined) (c : Call) → Effect j c (callOf j c .joined)
 effect j (call.Prime z) = prime-effect j z (j .machine) refl
 effect j (call.Step i) = step-effect j i (step-effects j i)
 effect j (call.Cut why) = cut-effect j why
-effect j (call.Settings s) = set-effect j s (j .machine) refl
+effect j (call.Settings s) = set-effect j s
+
+-- ---- a new machine
+-- by the verdict v on its settings
+abbrev pub newBy : Airframe → Settings → Validity → NewJoined
+newBy airframe.Tailsitter s v = newIf (newTailsitter (tailsitter.newIf v (transitionConfigOf s)))
+newBy airframe.Quadplane s v = newIf (newQuadplane (quadplane.newIf v (liftTransitionConfigOf s)))
+
+pub new-by : (a : Airframe) (s : Settings) → newOf a s ≡ newBy a s (validityIn a s)
+new-by airframe.Tailsitter s = refl
+new-by airframe.Quadplane s = refl
+
+-- the accepted one, in section 4's new state
+abbrev pub newWith : Airframe → Settings → Machine
+newWith airframe.Tailsitter s = machine.Tailsitter (record { config = transitionConfigOf s; state = newState; «start_tilt_rad» = zero32 })
+newWith airframe.Quadplane s = machine.Quadplane (record { config = liftTransitionConfigOf s; state = newState; «ramp_start_s» = Waiting })
+
+made-by : (a : Airframe) (s : Settings) (v : Validity) (j : Joined) → newBy a s v ≡ made.Joined j → (v ≡ Valid) × (j ≡ initial (newWith a s))
+made-by airframe.Tailsitter s Valid j e = (refl, cc)
+made-by airframe.Quadplane s Valid j e = (refl, cc)
+made-by airframe.Tailsitter s (Bad n) j e = (cc, cc)
+made-by airframe.Quadplane s (Bad n) j e = (cc, cc)
+
+pub new-made : (a : Airframe) (s : Settings) (j : Joined) → newOf a s ≡ made.Joined j → (validityIn a s ≡ Valid) × (j ≡ initial (newWith a s))
+new-made a s j e = made-by a s (validityIn a s) j (sym (new-by a s) ∙ e)

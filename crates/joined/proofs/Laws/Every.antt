@@ -1,21 +1,15 @@
 -- Demand 3 of document 01's answers and states themselves: from a new joined machine with accepted settings, every list of calls meets the claim. The ranges, the history and the stay of a list are each
 -- kept call by call; here they are put together. Assumes nothing.
-use mathlib.Core.Path.{_≡_, refl, ap, subst}
+use mathlib.Core.Path.{_≡_, refl, sym, ap, subst}
 use mathlib.Core.List.{List, [], _∷_}
 use lib.Dec.{T}
 use lib.Ieee.{Float, nan}
-use Rattle.numbers.specs.Numbers.{zero32}
-use Rattle.numbers.proofs.Laws.Order.{number, le-number-right}
-use Rattle.numbers.proofs.Laws.Ranged.{Limit}
+use Rattle.numbers.proofs.Laws.Order.{number}
+use Rattle.numbers.proofs.Laws.Ranged.{Limit, limit-amount}
 use Rattle.machines.specs.declared.FlightMode.{FlightMode}
 use Rattle.machines.specs.declared.FlightMode.the-variants as mode
 use Rattle.machines.specs.declared.rows.TransitionState.{TransitionState}
-use Rattle.machines.specs.declared.settings.Validity.{Validity}
-use Rattle.machines.specs.declared.settings.Validity.the-variants.{Valid, Bad}
-use Rattle.machines.specs.Settings.{transitionValidity, liftValidity}
 use Rattle.machines.specs.Rows.{newState}
-use Rattle.machines.specs.Transition as tailsitter
-use Rattle.machines.specs.Lift as quadplane
 use Rattle.joined.specs.declared.settings.Settings.{Settings}
 use Rattle.joined.specs.declared.call.Call.{Call}
 use Rattle.joined.specs.declared.machine.Airframe.{Airframe}
@@ -23,12 +17,13 @@ use Rattle.joined.specs.declared.machine.Airframe.the-variants as airfra
 use Rattle.joined.specs.declared.machine.Machine.{Machine}
 use Rattle.joined.specs.declared.machine.Machine.the-variants as machine
 use Rattle.joined.specs.declared.joined.Joined.{Joined}
-use Rattle.joined.specs.declared.joined.NewJoined.{NewJoined}
 use Rattle.joined.specs.declared.joined.NewJoined.the-variants as made
-use Rattle.joined.specs.Machine.{airframeOf, stateIn, transitionConfigOf, liftTransitionConfigOf, newTailsitter, newQuadplane}
-use Rattle.joined.specs.Joined.{newIf, newOf}
+use Rattle.joined.specs.Machine.{airframeOf, stateIn}
+use Rattle.joined.specs.Joined.{initial, newOf}
 use Rattle.joined.specs.List.{Binary32Settings, Binary32Calls, after, answersOf, modeAt, minHeightOf, planeMinHeightOf, EachCall, ByMode, Claim}
+use Rattle.joined.proofs.Laws.Effects.{newWith, new-made}
 use Rattle.joined.proofs.Laws.Moves.{gateAt}
+use Rattle.joined.proofs.Laws.RangesRows.{amount-number}
 use Rattle.joined.proofs.Laws.Ranges.{MachineRanges, Ranges, thrust-in, output-in, new-ranges, every-ranges}
 use Rattle.joined.proofs.Laws.History.{Minimums, History, history, in-plane}
 use Rattle.joined.proofs.Laws.Lines.{lines-in-range}
@@ -39,24 +34,12 @@ pub record New (a : Airframe) (j : Joined) : Type 0 where
   pub frame : airframeOf (j .machine) ≡ a
   pub state : stateIn (j .machine) ≡ newState
 
-abbrev NewIf : Airframe → NewJoined → Type 0
-NewIf a (made.Refused why) = Unit {0}
-NewIf a (made.Joined j) = New a j
-
-new-tailsitter : (v : Validity) (s : Settings) → NewIf airframe.Tailsitter (newIf (newTailsitter (tailsitter.newIf v (transitionConfigOf s))))
-new-tailsitter Valid s = record { frame = refl; state = refl }
-new-tailsitter (Bad n) s = tt
-
-new-quadplane : (v : Validity) (s : Settings) → NewIf airframe.Quadplane (newIf (newQuadplane (quadplane.newIf v (liftTransitionConfigOf s))))
-new-quadplane Valid s = record { frame = refl; state = refl }
-new-quadplane (Bad n) s = tt
-
-new-by : (a : Airframe) (s : Settings) → NewIf a (newOf a s)
-new-by airframe.Tailsitter s = new-tailsitter (transitionValidity (transitionConfigOf s)) s
-new-by airframe.Quadplane s = new-quadplane (liftValidity (liftTransitionConfigOf s)) s
+new-with : (a : Airframe) (s : Settings) → New a (initial (newWith a s))
+new-with airframe.Tailsitter s = record { frame = refl; state = refl }
+new-with airframe.Quadplane s = record { frame = refl; state = refl }
 
 pub new : (a : Airframe) (s : Settings) (j : Joined) → newOf a s ≡ made.Joined j → New a j
-new a s j e = subst (λ (n : NewJoined). NewIf a n) e (new-by a s)
+new a s j e = subst (λ (k : Joined). New a k) (sym (new-made a s j e .1)) (new-with a s)
 
 -- so it is in Copter, and was never primed
 in-copter : (a : Airframe) (j : Joined) → New a j → modeAt j ≡ mode.Copter
@@ -67,7 +50,7 @@ unprimed a j n = ap (λ (s : TransitionState). s .gate .«home_altitude_m») (n 
 
 -- ---- both minimums are numbers all along
 limit-number : (x : Float) → Limit x → T (number x)
-limit-number x l = le-number-right zero32 x (l .above)
+limit-number x l = amount-number x (limit-amount x l)
 
 minimums-of : (m : Machine) → MachineRanges m → T (number (minHeightOf m)) × T (number (planeMinHeightOf m))
 minimums-of (machine.Tailsitter m) g = (limit-number (m .config .«min_height_m») (g .settings .min-height), limit-number (m .config .«plane_min_height_m») (g .settings .plane-min-height))

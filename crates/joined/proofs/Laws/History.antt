@@ -1,10 +1,12 @@
 -- The history of a list, kept call by call along the edges between the modes: where the last prime stands, that its abandonments are cleared while none is held, and, from the step
 -- that leaves Copter on, that step with its height, the quadplane's ramp, and no abandonment since. Assumes nothing.
 use mathlib.Core.Path.{_≡_, refl, sym, ap, _∙_, subst}
-use mathlib.Core.Bool.{Bool, true, false, not, _&&_}
+use mathlib.Core.Bool.{Bool, true, false, not}
 use mathlib.Core.List.{List, [], _∷_, _++_}
 use mathlib.Core.Logic.{_⊎_, inl, inr}
-use lib.Dec.{T}
+use Prim.Native.Nat.{ℕ}
+use native.Mathlib.Omega.{arith}
+use lib.Dec.{T, T-not}
 use lib.Ieee.{Float, nan, inf, fin, sub, le}
 use lib.Ieee.Fits.{and-l, and-r, and-i}
 use Rattle.numbers.specs.Numbers.{_⊕_, _⊖_, finite, maxOf}
@@ -35,8 +37,7 @@ use Rattle.joined.specs.Joined.{callOf}
 use Rattle.joined.specs.List.{after, modeAt, abandonmentAt, clockAt, minHeightOf, planeMinHeightOf, isPrime, isAcceptedStep, leavesCopter, abandons, copterRequestInCopter, endsIn}
 use Rattle.joined.specs.List.{EachCall, NoCall, SomeCall, readsMinimum, rampWithin, Ramped, RampedIf, InPlane}
 use Rattle.joined.proofs.Laws.Effects.{rampStartIn, foundIn}
-use Rattle.joined.proofs.Laws.RangesRows.{contradicts}
-use Rattle.joined.proofs.Laws.Moves.{not-and-right, gateAt, rampAt, Edge, edge, airframe-kept}
+use Rattle.joined.proofs.Laws.Moves.{failed, not-and-left, not-and-right, gateAt, rampAt, Edge, edge, airframe-kept}
 use Rattle.joined.proofs.Laws.Moves as edges
 
 -- both minimums that are set are numbers
@@ -61,12 +62,8 @@ pub here-next : (from : Joined) (cs : List Call) (now : Joined) (c : Call) → a
 here-next from cs now c here = ap (λ (k : Joined). next k c) here
 
 -- ---- tests
-stays-false : (a b : Bool) → a ≡ false → T (not (a && b))
-stays-false true b e = absurd (subst (λ (x : Bool). T (not x)) (sym e) tt)
-stays-false false b e = tt
-
 -- a call after which none is held abandons nothing
-pub none-held : (now : Joined) (c : Call) → abandonmentAt (next now c) ≡ refusal.None → T (not (abandons now c))
+none-held : (now : Joined) (c : Call) → abandonmentAt (next now c) ≡ refusal.None → T (not (abandons now c))
 none-held now c e = not-and-right (not (holds (abandonmentAt now))) (holds (abandonmentAt (next now c))) (ap holds e)
 
 -- ---- each abandonment of a stretch is cleared in it
@@ -76,7 +73,7 @@ Cleared from (c ∷ cs) = T (not (abandons (after from cs) c)) × (T (copterRequ
 
 clears-each : (from : Joined) (later earlier : List Call) (c : Call) → Cleared from (later ++ (c ∷ earlier)) → T (abandons (after from earlier) c)
     → SomeCall copterRequestInCopter (after from (c ∷ earlier)) later
-clears-each from [] earlier c h a = absurd (contradicts (abandons (after from earlier) c) a (h .0))
+clears-each from [] earlier c h a = absurd (T-not (abandons (after from earlier) c) (h .0) a)
 clears-each from (d ∷ later) earlier c h a =
     elim (h .1) [
       | inl t ↦ inl (subst (λ (k : Joined). T (copterRequestInCopter k d)) (after-append from later (c ∷ earlier)) t)
@@ -199,11 +196,7 @@ Over m Waiting clock = ⊥
 Over m (Begun start) clock = T (rampWithin m (clock ⊖ start))
 
 over : (m : Machine) (i : StepInput) → airframeOf m ≡ airframe.Quadplane → modeOf m ≡ mode.ToPlane → foundIn m i .completed ≡ true → Over m (rampStartIn m) (stateIn m .«elapsed_s» ⊕ i .dt)
-over (machine.Tailsitter m) i a e d = absurd (subst IsTailsitter a tt)
-  where
-    IsTailsitter : Airframe → Type 0
-    IsTailsitter airframe.Tailsitter = Unit {0}
-    IsTailsitter airframe.Quadplane = ⊥
+over (machine.Tailsitter m) i a e d = let z : _≡_ {A = ℕ} 0 1 = cc in omega arith
 over (machine.Quadplane m) i a e d = by (m .«ramp_start_s») (simp (e) at d)
   where
     by : (ramp : RampStart) → quadplane.rampDone ramp (m .state .«elapsed_s» ⊕ i .dt) (m .config .«lift_ramp_s») ≡ true → Over (machine.Quadplane m) ramp (m .state .«elapsed_s» ⊕ i .dt)
@@ -288,7 +281,7 @@ longer a at to j cs now c x away p free ramp =
       here = here-next left (x .since) now c (x .here);
       leaves = x .leaves;
       last-leaving =
-          each-next (λ k d. T (not (leavesCopter k d))) left (x .since) now c (x .here) (stays-false (isCopter (modeAt now)) (not (isCopter (modeAt (next now c)))) away)
+          each-next (λ k d. T (not (leavesCopter k d))) left (x .since) now c (x .here) (not-and-left (isCopter (modeAt now)) (not (isCopter (modeAt (next now c)))) (failed away))
           (x .last-leaving);
       primes-between = x .primes-between;
       primes-since = each-next (λ k d. T (not (isPrime k d))) left (x .since) now c (x .here) p (x .primes-since);
@@ -341,7 +334,7 @@ high-enough least least-plane height p q e =
     }
 
 -- a held abandonment is not none
-some-none : (held : MaybeRefusal) (why : ModeRefusal) → held ≡ refusal.Some why → held ≡ refusal.None → ⊥
+pub some-none : (held : MaybeRefusal) (why : ModeRefusal) → held ≡ refusal.Some why → held ≡ refusal.None → ⊥
 some-none held why e n = subst T (ap holds (sym e ∙ n)) tt
 
 module _ (a : Airframe) (j : Joined) (cs : List Call) (now : Joined) (s : History a j cs now) where

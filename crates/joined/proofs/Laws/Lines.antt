@@ -8,9 +8,6 @@ use Rattle.machines.specs.declared.answer.ShareOrTilt.{ShareOrTilt}
 use Rattle.machines.specs.declared.answer.ShareOrTilt.the-variants as output
 use Rattle.machines.specs.declared.answer.TransitionAnswer.{TransitionAnswer}
 use Rattle.machines.specs.declared.answer.TransitionAnswer.the-variants as moved
-use Rattle.machines.specs.declared.settings.Validity.{Validity}
-use Rattle.machines.specs.declared.settings.Validity.the-variants.{Valid, Bad}
-use Rattle.machines.specs.Settings.{transitionValidity, liftValidity}
 use Rattle.machines.specs.Transition as tailsitter
 use Rattle.machines.specs.Lift as quadplane
 use Rattle.joined.specs.declared.settings.Settings.{Settings}
@@ -24,10 +21,10 @@ use Rattle.joined.specs.declared.machine.Machine.the-variants as machine
 use Rattle.joined.specs.declared.machine.MachineUpdate.{MachineUpdate}
 use Rattle.joined.specs.declared.joined.Joined.{Joined}
 use Rattle.joined.specs.declared.joined.JoinedUpdate.{JoinedUpdate}
-use Rattle.joined.specs.Machine.{transitionConfigOf, liftTransitionConfigOf, ofTransition, ofLift, primeMachineOf, setMachineOf, updateMachineOf, cutMachineOf, pastRollLimitOf}
+use Rattle.joined.specs.Machine.{primeMachineOf, setMachineOf, updateMachineOf, cutMachineOf, pastRollLimitOf}
 use Rattle.joined.specs.Joined.{steppedIf, cutOr, stepIf, primedIf, cutIf, setIf, callOf}
 use Rattle.joined.specs.List.{Binary32Calls, after, answersOf, OutputInRange, InUnit, ShownInRange, LineInRange, LinesInRange}
-use Rattle.joined.proofs.Laws.Effects.{moving, Update, refused, taken, update}
+use Rattle.joined.proofs.Laws.Effects.{moving, Update, refused, taken, update, setting, set-cases}
 use Rattle.joined.proofs.Laws.RangesThrust.{if-cases}
 use Rattle.joined.proofs.Laws.Ranges.{Ranges, thrust-in, output-in, every-ranges}
 
@@ -62,17 +59,12 @@ cut-shows : (m : Machine) (why : ModeRefusal) → Updated (cutMachineOf m why)
 cut-shows (machine.Tailsitter m) why = refl
 cut-shows (machine.Quadplane m) why = refl
 
+setting-shows : (m : Machine) (s : Settings) → Updated (setting m s)
+setting-shows (machine.Tailsitter m) s = refl
+setting-shows (machine.Quadplane m) s = refl
+
 set-shows : (m : Machine) (s : Settings) → Updated (setMachineOf m s)
-set-shows (machine.Tailsitter m) s = by (transitionValidity (transitionConfigOf s))
-  where
-    by : (v : Validity) → Updated (ofTransition (tailsitter.configIf v m (transitionConfigOf s)))
-    by Valid = refl
-    by (Bad field) = tt
-set-shows (machine.Quadplane m) s = by (liftValidity (liftTransitionConfigOf s))
-  where
-    by : (v : Validity) → Updated (ofLift (quadplane.configIf v m (liftTransitionConfigOf s)))
-    by Valid = refl
-    by (Bad field) = tt
+set-shows m s = set-cases Updated m s (λ e. setting-shows m s) (λ field. tt)
 
 -- ---- a line shows the joined machine after its call
 abbrev Shows : Answer → Joined → Type 0

@@ -62,33 +62,33 @@ pub data Edge (j k : Joined) : Call → Type 0 where
   resumes-plane : (c : Call) → T (not (isPrime j c)) → modeAt j ≡ mode.ToCopter → modeAt k ≡ mode.Plane → gateAt j .abandoned ≡ refusal.None → gateAt k ≡ gateAt j → Edge j k c
   ends-in-copter : (c : Call) → T (not (isPrime j c)) → modeAt k ≡ mode.Copter → gateAt k ≡ gateAt j → Edge j k c
 
--- ---- tests
-not-and-left : (a b : Bool) → T (not a) → T (not (a && b))
+-- ---- tests that failed
+pub failed : {b : Bool} → b ≡ false → T (not b)
+failed e = subst (λ (b : Bool). T (not b)) (sym e) tt
+
+pub not-and-left : (a b : Bool) → T (not a) → T (not (a && b))
 not-and-left true b h = absurd h
 not-and-left false b h = tt
 
 pub not-and-right : (a b : Bool) → b ≡ false → T (not (a && b))
-not-and-right true b e = subst (λ (x : Bool). T (not x)) (sym e) tt
+not-and-right true b e = failed e
 not-and-right false b e = tt
 
 -- ---- a machine after a row, whatever the airframe
-pub moving-state : (m : Machine) (i : StepInput) → stateIn (moving m i .machine) ≡ movedIn m i .state
-moving-state (machine.Tailsitter m) i = refl
-moving-state (machine.Quadplane m) i = refl
+pub record AfterRow (m : Machine) (i : StepInput) : Type 0 where
+  pub state : stateIn (moving m i .machine) ≡ movedIn m i .state
+  pub airframe : airframeOf (moving m i .machine) ≡ airframeOf m
+  pub settings : SameSettings m (moving m i .machine)
 
-moving-airframe : (m : Machine) (i : StepInput) → airframeOf (moving m i .machine) ≡ airframeOf m
-moving-airframe (machine.Tailsitter m) i = refl
-moving-airframe (machine.Quadplane m) i = refl
-
-moving-settings : (m : Machine) (i : StepInput) → SameSettings m (moving m i .machine)
-moving-settings (machine.Tailsitter m) i = refl
-moving-settings (machine.Quadplane m) i = refl
+pub after-row : (m : Machine) (i : StepInput) → AfterRow m i
+after-row (machine.Tailsitter m) i = record { state = refl; airframe = refl; settings = refl }
+after-row (machine.Quadplane m) i = record { state = refl; airframe = refl; settings = refl }
 
 -- the ramp after a row
 abbrev rampAfter : Moved → RampStart → Bool → RampStart
 rampAfter moved ramp fast = if moved .entered then Waiting else quadplane.rampIn (moved .state .mode) ramp fast (moved .state .«elapsed_s»)
 
-no-ramp : (entered : Bool) (to : FlightMode) (clock : Float) → Waiting ≡ (if entered then Waiting else quadplane.rampIn to Waiting false clock)
+pub no-ramp : (entered : Bool) (to : FlightMode) (clock : Float) → Waiting ≡ (if entered then Waiting else quadplane.rampIn to Waiting false clock)
 no-ramp true to clock = refl
 no-ramp false mode.Copter clock = refl
 no-ramp false mode.Plane clock = refl
@@ -101,27 +101,21 @@ moving-ramp (machine.Tailsitter m) i =
     no-ramp (r .entered) (r .state .mode) (r .state .«elapsed_s»)
 moving-ramp (machine.Quadplane m) i = refl
 
-pub found-z : (m : Machine) (i : StepInput) → foundIn m i .z ≡ i .state .«z_m»
-found-z (machine.Tailsitter m) i = refl
-found-z (machine.Quadplane m) i = refl
+-- the heights that it finds
+pub record Heights (m : Machine) (i : StepInput) : Type 0 where
+  pub z : foundIn m i .z ≡ i .state .«z_m»
+  pub minimum : foundIn m i .minHeight ≡ minHeightOf m
+  pub plane-minimum : foundIn m i .planeMinHeight ≡ planeMinHeightOf m
 
-found-minimum : (m : Machine) (i : StepInput) → foundIn m i .minHeight ≡ minHeightOf m
-found-minimum (machine.Tailsitter m) i = refl
-found-minimum (machine.Quadplane m) i = refl
-
-pub found-plane-minimum : (m : Machine) (i : StepInput) → foundIn m i .planeMinHeight ≡ planeMinHeightOf m
-found-plane-minimum (machine.Tailsitter m) i = refl
-found-plane-minimum (machine.Quadplane m) i = refl
+pub heights : (m : Machine) (i : StepInput) → Heights m i
+heights (machine.Tailsitter m) i = record { z = refl; minimum = refl; plane-minimum = refl }
+heights (machine.Quadplane m) i = record { z = refl; minimum = refl; plane-minimum = refl }
 
 -- ---- the gate lets the machine go: no abandonment, and high enough
-abbrev IsNone : MaybeRefusal → Type 0
-IsNone refusal.None = Unit {0}
-IsNone (refusal.Some why) = ⊥
-
 free : (a : MaybeRefusal) (high : Bool) → forwardRefusal a high ≡ refusal.None → (a ≡ refusal.None) × (high ≡ true)
 free refusal.None true e = (refl, refl)
-free refusal.None false e = absurd (subst IsNone (sym e) tt)
-free (refusal.Some why) high e = absurd (subst IsNone (sym e) tt)
+free refusal.None false e = (refl, cc)
+free (refusal.Some why) high e = (cc, cc)
 
 -- ---- a row
 module _ (j : Joined) (i : StepInput) (k : Joined) (taken : T (isAcceptedStep j (call.Step i))) (to : k .machine ≡ moving (j .machine) i .machine) where
@@ -142,7 +136,7 @@ module _ (j : Joined) (i : StepInput) (k : Joined) (taken : T (isAcceptedStep j 
   row at asked em er = ap (λ (m : FlightMode). rows.rowIn m (i .requested) begun found) em ∙ ap (λ (r : FlightRegime). rows.rowIn at r begun found) er
 
   state-by : (r : Moved) → Row r → stateIn (k .machine) ≡ r .state
-  state-by r e = ap stateIn to ∙ moving-state (j .machine) i ∙ ap (λ (x : Moved). x .state) e
+  state-by r e = ap stateIn to ∙ after-row (j .machine) i .state ∙ ap (λ (x : Moved). x .state) e
 
   mode-by : (r : Moved) → Row r → modeAt k ≡ r .state .mode
   mode-by r e = ap (λ (s : TransitionState). s .mode) (state-by r e)
@@ -157,7 +151,7 @@ module _ (j : Joined) (i : StepInput) (k : Joined) (taken : T (isAcceptedStep j 
   ramp-by r e = ap rampStartIn to ∙ moving-ramp (j .machine) i ∙ ap (λ (x : Moved). rampAfter x (rampAt j) (readsMinimum (j .machine) i)) e
 
   same : SameSettings (j .machine) (k .machine)
-  same = subst (λ (m : Machine). SameSettings (j .machine) m) (sym to) (moving-settings (j .machine) i)
+  same = subst (λ (m : Machine). SameSettings (j .machine) m) (sym to) (after-row (j .machine) i .settings)
 
   -- the clock that the tests see
   begun-clock : (at : FlightMode) → modeAt j ≡ at → begun .«elapsed_s» ≡ clockAfter at (clockAt j) (i .dt)
@@ -203,9 +197,9 @@ module _ (j : Joined) (i : StepInput) (k : Joined) (taken : T (isAcceptedStep j 
           row mode.Copter regime.Plane em er ∙ ap (λ (a : MaybeRefusal). enterUnless a (reporting begun a)) ea in
           let f = free (gateAt j .abandoned) (highEnough (heightOf (gateAt j) (found .z)) (found .minHeight) (found .planeMinHeight)) ea in
           enters-to-plane i em (mode-by _ e) (f .0) (gate-by _ e)
-          (subst (λ (z : Float). highEnough (heightOf (gateAt j) z) (minHeightOf (j .machine)) (planeMinHeightOf (j .machine)) ≡ true) (found-z (j .machine) i)
-          (subst (λ (p : Float). highEnough (heightOf (gateAt j) (found .z)) (minHeightOf (j .machine)) p ≡ true) (found-plane-minimum (j .machine) i)
-          (subst (λ (n : Float). highEnough (heightOf (gateAt j) (found .z)) n (found .planeMinHeight) ≡ true) (found-minimum (j .machine) i) (f .1)))) (clock-by _ e)
+          (subst (λ (z : Float). highEnough (heightOf (gateAt j) z) (minHeightOf (j .machine)) (planeMinHeightOf (j .machine)) ≡ true) (heights (j .machine) i .z)
+          (subst (λ (p : Float). highEnough (heightOf (gateAt j) (found .z)) (minHeightOf (j .machine)) p ≡ true) (heights (j .machine) i .plane-minimum)
+          (subst (λ (n : Float). highEnough (heightOf (gateAt j) (found .z)) n (found .planeMinHeight) ≡ true) (heights (j .machine) i .minimum) (f .1)))) (clock-by _ e)
           (ramp-by _ e)
 
   from-to-plane : (asked : FlightRegime) → i .requested ≡ asked → modeAt j ≡ mode.ToPlane → Edge j k c
@@ -273,26 +267,23 @@ module _ (j : Joined) (i : StepInput) (k : Joined) (taken : T (isAcceptedStep j 
   by-row mode.ToCopter em = from-to-copter (i .requested) refl em
 
 -- ---- a cut
-pub cut-state : (m : Machine) (why : ModeRefusal) → stateIn (cutMachineOf m why .machine) ≡ cutOf (stateIn m) why .state
-cut-state (machine.Tailsitter m) why = refl
-cut-state (machine.Quadplane m) why = refl
+pub record AfterCut (m : Machine) (why : ModeRefusal) : Type 0 where
+  pub state : stateIn (cutMachineOf m why .machine) ≡ cutOf (stateIn m) why .state
+  pub ramp : rampStartIn (cutMachineOf m why .machine) ≡ rampStartIn m
+  pub airframe : airframeOf (cutMachineOf m why .machine) ≡ airframeOf m
 
-cut-ramp : (m : Machine) (why : ModeRefusal) → rampStartIn (cutMachineOf m why .machine) ≡ rampStartIn m
-cut-ramp (machine.Tailsitter m) why = refl
-cut-ramp (machine.Quadplane m) why = refl
-
-cut-airframe : (m : Machine) (why : ModeRefusal) → airframeOf (cutMachineOf m why .machine) ≡ airframeOf m
-cut-airframe (machine.Tailsitter m) why = refl
-cut-airframe (machine.Quadplane m) why = refl
+pub after-cut : (m : Machine) (why : ModeRefusal) → AfterCut m why
+after-cut (machine.Tailsitter m) why = record { state = refl; ramp = refl; airframe = refl }
+after-cut (machine.Quadplane m) why = record { state = refl; ramp = refl; airframe = refl }
 
 by-cut : (j : Joined) (c : Call) (k : Joined) (why : ModeRefusal) → T (not (isPrime j c)) → k .machine ≡ cutMachineOf (j .machine) why .machine
     → (at : FlightMode) → modeAt j ≡ at → Edge j k c
-by-cut j c k why p to at em = go at em (ap stateIn to ∙ cut-state (j .machine) why ∙ ap (λ (m : FlightMode). cutIn m (stateIn (j .machine)) why .state) em)
+by-cut j c k why p to at em = go at em (ap stateIn to ∙ after-cut (j .machine) why .state ∙ ap (λ (m : FlightMode). cutIn m (stateIn (j .machine)) why .state) em)
   where
     idle : stateIn (k .machine) ≡ stateIn (j .machine) → transitioning (modeAt j) ≡ false → Edge j k c
     idle e n =
         stays c (not-and-right (isAcceptedStep j c) (transitioning (modeAt j)) n) p (ap (λ (s : TransitionState). s .mode) e) (ap (λ (s : TransitionState). s .gate) e)
-        (ap (λ (s : TransitionState). s .«elapsed_s») e) (ap rampStartIn to ∙ cut-ramp (j .machine) why)
+        (ap (λ (s : TransitionState). s .«elapsed_s») e) (ap rampStartIn to ∙ after-cut (j .machine) why .ramp)
 
     go : (at : FlightMode) → modeAt j ≡ at → stateIn (k .machine) ≡ cutIn at (stateIn (j .machine)) why .state → Edge j k c
     go mode.Copter em e = idle e (ap transitioning em)
@@ -318,8 +309,8 @@ same-airframe : (j : Joined) (c : Call) (k : Joined) → Effect j c k → airfra
 same-airframe j c k (refuses n p e) = ap (λ (x : Joined). airframeOf (x .machine)) e
 same-airframe j c k (sets n p s r a) = a
 same-airframe j c k (primes z e s a) = a
-same-airframe j c k (cuts why by p to) = ap airframeOf to ∙ cut-airframe (j .machine) why
-same-airframe j c k (moves i e taken p to) = ap airframeOf to ∙ moving-airframe (j .machine) i
+same-airframe j c k (cuts why by p to) = ap airframeOf to ∙ after-cut (j .machine) why .airframe
+same-airframe j c k (moves i e taken p to) = ap airframeOf to ∙ after-row (j .machine) i .airframe
 
 pub airframe-kept : (j : Joined) (c : Call) → airframeOf (callOf j c .joined .machine) ≡ airframeOf (j .machine)
 airframe-kept j c = same-airframe j c (callOf j c .joined) (effect j c)

@@ -1,7 +1,7 @@
 -- Every call keeps the ranges of a joined machine, and so does every list of calls: the settings are valid, the thrust and the handoff's are shares, the clock is an amount and finite in a
 -- transition, and so on. So what a joined machine shows is in range: "share and thrust in 0..1, tilt in 0..π". A refused call leaves the state, and each other one is a machine's
 -- call and a change of the handoff. Assumes nothing.
-use mathlib.Core.Path.{_≡_, refl, subst}
+use mathlib.Core.Path.{_≡_, sym, subst}
 use mathlib.Core.List.{List, [], _∷_}
 use lib.Ieee.{Float}
 use Rattle.numbers.proofs.Laws.Ranged.{Limit, Share, zero-amount}
@@ -11,13 +11,9 @@ use Rattle.machines.specs.declared.ModeRefusal.the-variants.{RollError}
 use Rattle.machines.specs.declared.answer.TransitionStep.{TransitionStep}
 use Rattle.machines.specs.declared.answer.TransitionAnswer.{TransitionAnswer}
 use Rattle.machines.specs.declared.answer.TransitionAnswer.the-variants as moved
-use Rattle.machines.specs.declared.settings.Validity.{Validity}
-use Rattle.machines.specs.declared.settings.Validity.the-variants.{Valid, Bad}
+use Rattle.machines.specs.declared.settings.Validity.the-variants.{Valid}
 use Rattle.machines.specs.declared.handoff.ThrustHandoff.{ThrustHandoff}
-use Rattle.machines.specs.Settings.{transitionValidity, liftValidity}
 use Rattle.machines.specs.Thrust.{newHandoff}
-use Rattle.machines.specs.Transition as tailsitter
-use Rattle.machines.specs.Lift as quadplane
 use Rattle.joined.specs.declared.settings.Settings.{Settings}
 use Rattle.joined.specs.declared.call.StepInput.{StepInput}
 use Rattle.joined.specs.declared.call.Call.{Call}
@@ -27,20 +23,18 @@ use Rattle.joined.specs.declared.machine.Airframe.the-variants as airfra
 use Rattle.joined.specs.declared.machine.Machine.{Machine}
 use Rattle.joined.specs.declared.machine.Machine.the-variants as machine
 use Rattle.joined.specs.declared.machine.MachineUpdate.{MachineUpdate}
-use Rattle.joined.specs.declared.machine.NewMachine.{NewMachine}
-use Rattle.joined.specs.declared.machine.NewMachine.the-variants as made-machine
 use Rattle.joined.specs.declared.joined.Joined.{Joined}
-use Rattle.joined.specs.declared.joined.NewJoined.{NewJoined}
 use Rattle.joined.specs.declared.joined.NewJoined.the-variants as made
-use Rattle.joined.specs.Machine.{transitionConfigOf, liftTransitionConfigOf, stateIn, modeOf, handoffTimeOf}
-use Rattle.joined.specs.Machine.{newTailsitter, newQuadplane, newMachineOf, primeMachineOf, setMachineOf, updateMachineOf, cutMachineOf, pastRollLimitOf}
-use Rattle.joined.specs.Joined.{initial, newIf, newOf, freshHandoff, startsHandoff, thrustOf, steppedHandoff, stepped, steppedIf, cutOr, stepIf, stepOf, primedIf, cutIf, setIf, callOf}
+use Rattle.joined.specs.Machine.{airframeOf, stateIn, modeOf, handoffTimeOf}
+use Rattle.joined.specs.Machine.{primeMachineOf, setMachineOf, updateMachineOf, cutMachineOf, pastRollLimitOf}
+use Rattle.joined.specs.Joined.{initial, newOf, freshHandoff, startsHandoff, thrustOf, steppedHandoff, stepped, steppedIf, cutOr, stepIf, stepOf, primedIf, cutIf, setIf, callOf}
 use Rattle.joined.specs.List.{Binary32Settings, Binary32Step, Binary32Call, Binary32Calls, after, InUnit, OutputInRange}
+use Rattle.joined.proofs.Laws.Effects.{validityIn, setting, set-cases, newWith, new-made}
 use Rattle.joined.proofs.Laws.RangesSettings.{tailsitter-settings, quadplane-settings}
 use Rattle.joined.proofs.Laws.RangesThrust.{if-cases, zero-share, HandoffRanges, new-handoff, started, ThrustRanges, blended-ranges, tailsitter-thrust}
-use Rattle.joined.proofs.Laws.RangesRows.{StateRanges}
-use Rattle.joined.proofs.Laws.RangesTailsitter.{TailsitterRanges, zero-angle, update-tailsitter, prime-tailsitter, cut-tailsitter, set-tailsitter, tailsitter-output}
-use Rattle.joined.proofs.Laws.RangesQuadplane.{QuadplaneRanges, update-quadplane, prime-quadplane, cut-quadplane, set-quadplane, quadplane-output}
+use Rattle.joined.proofs.Laws.RangesRows.{StateRanges, primed-ranges, cut-ranges}
+use Rattle.joined.proofs.Laws.RangesTailsitter.{TailsitterRanges, zero-angle, update-tailsitter, tailsitter-output}
+use Rattle.joined.proofs.Laws.RangesQuadplane.{QuadplaneRanges, update-quadplane, cut-quadplane, quadplane-output}
 
 -- ---- either machine
 -- what is asked of it
@@ -69,16 +63,19 @@ update-machine (machine.Tailsitter m) i h r = update-tailsitter m (i .dt) (i .re
 update-machine (machine.Quadplane m) i h r = update-quadplane m (i .dt) (i .requested) (i .state) (h .0) r
 
 prime-machine : (m : Machine) (z : Float) → MachineRanges m → MachineRanges (primeMachineOf m z .machine)
-prime-machine (machine.Tailsitter m) z r = prime-tailsitter m z r
-prime-machine (machine.Quadplane m) z r = prime-quadplane m z r
+prime-machine (machine.Tailsitter m) z r = record { settings = r .settings; state = primed-ranges z; start = r .start }
+prime-machine (machine.Quadplane m) z r = record { settings = r .settings; state = primed-ranges z; ramp = tt }
 
 cut-machine : (m : Machine) (why : ModeRefusal) → MachineRanges m → MachineRanges (cutMachineOf m why .machine)
-cut-machine (machine.Tailsitter m) why r = cut-tailsitter m why r
+cut-machine (machine.Tailsitter m) why r = record { settings = r .settings; state = cut-ranges (m .state) why (r .state .clock) .state; start = r .start }
 cut-machine (machine.Quadplane m) why r = cut-quadplane m why r
 
+setting-machine : (m : Machine) (s : Settings) → Binary32Settings s → MachineRanges m → validityIn (airframeOf m) s ≡ Valid → MachineRanges (setting m s .machine)
+setting-machine (machine.Tailsitter m) s h r e = record { settings = tailsitter-settings s h e; state = r .state; start = r .start }
+setting-machine (machine.Quadplane m) s h r e = record { settings = quadplane-settings s h e; state = r .state; ramp = r .ramp }
+
 set-machine : (m : Machine) (s : Settings) → Binary32Settings s → MachineRanges m → MachineRanges (setMachineOf m s .machine)
-set-machine (machine.Tailsitter m) s h r = set-tailsitter m s h r
-set-machine (machine.Quadplane m) s h r = set-quadplane m s h r
+set-machine m s h r = set-cases (λ (u : MachineUpdate). MachineRanges (u .machine)) m s (setting-machine m s h r) (λ field. r)
 
 -- its thrust, by the mode after a step
 machine-thrust : (m : Machine) (to : FlightMode) (h : ThrustHandoff) (i : StepInput) → Binary32Step i → MachineRanges m → HandoffRanges h → ThrustRanges (thrustOf m to h i)
@@ -104,35 +101,13 @@ output-in j r = machine-output (j .machine) (r .machine)
 initial-ranges : (m : Machine) → MachineRanges m → Ranges (initial m)
 initial-ranges m r = record { machine = r; handoff = new-handoff (handoffTimeOf m) (handoff-time m r); thrust = zero-share }
 
--- what was made, if it was not refused, is in range
-abbrev MadeMachine : NewMachine → Type 0
-MadeMachine (made-machine.Refused why) = Unit {0}
-MadeMachine (made-machine.Machine m) = MachineRanges m
-
-abbrev Made : NewJoined → Type 0
-Made (made.Refused why) = Unit {0}
-Made (made.Joined j) = Ranges j
-
--- the machine, by the verdict on its settings
-new-tailsitter : (v : Validity) (s : Settings) → Binary32Settings s → transitionValidity (transitionConfigOf s) ≡ v → MadeMachine (newTailsitter (tailsitter.newIf v (transitionConfigOf s)))
-new-tailsitter Valid s h e = record { settings = tailsitter-settings s h e; state = record { clock = zero-amount; ends = tt }; start = zero-angle }
-new-tailsitter (Bad field) s h e = tt
-
-new-quadplane : (v : Validity) (s : Settings) → Binary32Settings s → liftValidity (liftTransitionConfigOf s) ≡ v → MadeMachine (newQuadplane (quadplane.newIf v (liftTransitionConfigOf s)))
-new-quadplane Valid s h e = record { settings = quadplane-settings s h e; state = record { clock = zero-amount; ends = tt }; ramp = tt }
-new-quadplane (Bad field) s h e = tt
-
-new-machine : (a : Airframe) (s : Settings) → Binary32Settings s → MadeMachine (newMachineOf a s)
-new-machine airframe.Tailsitter s h = new-tailsitter (transitionValidity (transitionConfigOf s)) s h refl
-new-machine airframe.Quadplane s h = new-quadplane (liftValidity (liftTransitionConfigOf s)) s h refl
-
--- the joined machine around it
-new-if : (n : NewMachine) → MadeMachine n → Made (newIf n)
-new-if (made-machine.Refused why) r = tt
-new-if (made-machine.Machine m) r = initial-ranges m r
+-- with settings that are accepted
+new-machine : (a : Airframe) (s : Settings) → Binary32Settings s → validityIn a s ≡ Valid → MachineRanges (newWith a s)
+new-machine airframe.Tailsitter s h e = record { settings = tailsitter-settings s h e; state = record { clock = zero-amount; ends = tt }; start = zero-angle }
+new-machine airframe.Quadplane s h e = record { settings = quadplane-settings s h e; state = record { clock = zero-amount; ends = tt }; ramp = tt }
 
 pub new-ranges : (a : Airframe) (s : Settings) → Binary32Settings s → (j : Joined) → newOf a s ≡ made.Joined j → Ranges j
-new-ranges a s h j e = subst Made e (new-if (newMachineOf a s) (new-machine a s h))
+new-ranges a s h j e = let m = new-made a s j e in subst Ranges (sym (m .1)) (initial-ranges (newWith a s) (new-machine a s h (m .0)))
 
 -- ---- a step
 -- a fresh handoff from the kept thrust

@@ -1,14 +1,14 @@
--- The quadplane keeps its ranges in every call, and the share that it shows is in range: the rows keep the clock, and a ramp begins at the clock, which only grows while ToPlane lasts.
+-- The quadplane keeps its ranges in every update and cut, and the share that it shows is in range: the rows keep the clock, and a ramp begins at the clock, which only grows while ToPlane lasts.
 -- Assumes nothing.
-use mathlib.Core.Path.{_≡_, refl}
-use mathlib.Core.Bool.{Bool, true, false, not}
+use mathlib.Core.Path.{subst}
+use mathlib.Core.Bool.{Bool, true, false, not, Bool·not-not}
 use lib.Dec.{T}
 use lib.Ieee.{Float, lt}
 use Rattle.numbers.specs.Numbers.{zero32, one32, finite}
 use Rattle.numbers.specs.Ranges.{positive}
-use Rattle.numbers.proofs.Laws.Order.{le-refl-number, le-number-right}
+use Rattle.numbers.proofs.Laws.Order.{le-refl-number}
 use Rattle.numbers.proofs.Laws.Units.{Amount}
-use Rattle.numbers.proofs.Laws.Ranged.{Positive, is-positive, positive-amount, zero-amount, one-above}
+use Rattle.numbers.proofs.Laws.Ranged.{Positive, is-positive, positive-amount, zero-amount, one-above, one-amount}
 use Rattle.numbers.proofs.Laws.Rounding.{above-zero}
 use Rattle.numbers.proofs.Laws.Tilt.{lift-share, progress}
 use Rattle.machines.specs.declared.FlightMode.{FlightMode}
@@ -19,24 +19,19 @@ use Rattle.machines.specs.declared.MaybeRefusal.{MaybeRefusal}
 use Rattle.machines.specs.declared.MaybeRefusal.the-variants as refusal
 use Rattle.machines.specs.declared.InputRefusal.the-variants.{TimeStep}
 use Rattle.machines.specs.declared.VehicleState.{VehicleState}
-use Rattle.machines.specs.declared.settings.Validity.{Validity}
-use Rattle.machines.specs.declared.settings.Validity.the-variants.{Valid, Bad}
 use Rattle.machines.specs.declared.lift.RampStart.{RampStart}
 use Rattle.machines.specs.declared.lift.RampStart.the-variants.{Waiting, Begun}
 use Rattle.machines.specs.declared.lift.LiftTransition.{LiftTransition}
 use Rattle.machines.specs.declared.lift.LiftTransitionUpdate.{LiftTransitionUpdate}
-use Rattle.machines.specs.Settings.{liftValidity}
 use Rattle.machines.specs.Gate.{readingOf, atLeast}
 use Rattle.machines.specs.Rows.{begin, cutOf}
 use Rattle.machines.specs.Lift.{forwardShare, backShare, shareIn, shareOf, rampDone, rampTimedOut, slowed, foundOf, movedOf, rampIn}
-use Rattle.machines.specs.Lift.{refusedBy, settledOf, updateOf, primeOf, cutShortOf, configIf, setConfigOf}
-use Rattle.joined.specs.declared.settings.Settings.{Settings}
-use Rattle.joined.specs.Machine.{liftTransitionConfigOf}
-use Rattle.joined.specs.List.{IsBinary32, Binary32Settings, InUnit}
-use Rattle.joined.proofs.Laws.RangesSettings.{QuadplaneSettings, quadplane-settings}
+use Rattle.machines.specs.Lift.{refusedBy, settledOf, updateOf, cutShortOf}
+use Rattle.joined.specs.List.{IsBinary32, InUnit}
+use Rattle.joined.proofs.Laws.RangesSettings.{QuadplaneSettings}
 use Rattle.joined.proofs.Laws.RangesThrust.{if-cases}
-use Rattle.joined.proofs.Laws.RangesRows.{ClockIn, StartIn, StateRanges, GoesOn, primed-ranges, begin-clock, begin-start, in-time, in-ramp}
-use Rattle.joined.proofs.Laws.RangesRows.{twice-not, or-failed, row-ranges, enters-none, cut-ranges}
+use Rattle.joined.proofs.Laws.RangesRows.{ClockIn, StartIn, StateRanges, GoesOn, begin-clock, begin-start, in-time, in-ramp}
+use Rattle.joined.proofs.Laws.RangesRows.{or-failed, amount-number, row-ranges, enters-none, cut-ranges}
 
 -- a ramp that began: its start is finite, and in ToPlane at most the clock
 pub record BegunRanges (m : FlightMode) (clock start : Float) : Type 0 where
@@ -63,7 +58,7 @@ ramp-kept m n c d (Begun start) k r = record { amount = r .amount; ends = r .end
 
 -- one that may begin
 ramp-in : (m : FlightMode) (clock : Float) (ramp : RampStart) (fast : Bool) → Amount clock → ClockIn m clock → RampRanges m clock ramp → RampRanges m clock (rampIn m ramp fast clock)
-ramp-in mode.ToPlane clock Waiting true p f r = record { amount = p; ends = f; before = le-refl-number clock (le-number-right zero32 clock (above-zero clock p)) }
+ramp-in mode.ToPlane clock Waiting true p f r = record { amount = p; ends = f; before = le-refl-number clock (amount-number clock p) }
 ramp-in mode.ToPlane clock Waiting false p f r = tt
 ramp-in mode.ToPlane clock (Begun start) fast p f r = r
 ramp-in mode.Copter clock ramp fast p f r = r
@@ -96,7 +91,7 @@ update-quadplane m dt requested v f r =
     let fast = atLeast (readingOf (v .airspeed)) (c .«min_airspeed_mps») false in
     if-cases Kept (not (positive dt)) (refusedBy m TimeStep) (settledOf m moved v) (λ t. r)
     (λ t.
-    let q = positive-amount dt (is-positive dt f (twice-not (positive dt) t)) in
+    let q = positive-amount dt (is-positive dt f (subst T (Bool·not-not (positive dt)) t)) in
     let p = begin-clock from before dt (r .state .clock) q in
     let begun : RampRanges from clock ramp = ramp-kept from from before clock ramp (λ start. begin-start from start before dt (r .state .clock) q) (r .ramp) in
     let goes : GoesOn (foundOf c ramp s v) clock =
@@ -113,10 +108,7 @@ update-quadplane m dt requested v f r =
           (λ u. ramp-in to now ramp fast (row .state .clock) (row .state .ends) (ramp-kept from to clock now ramp (row .start u) begun));
     })
 
--- a prime, a cut, and new settings
-pub prime-quadplane : (m : LiftTransition) (z : Float) → QuadplaneRanges m → QuadplaneRanges (primeOf m z .machine)
-prime-quadplane m z r = record { settings = r .settings; state = primed-ranges z; ramp = tt }
-
+-- a cut
 pub cut-quadplane : (m : LiftTransition) (why : ModeRefusal) → QuadplaneRanges m → QuadplaneRanges (cutShortOf m why .machine)
 cut-quadplane m why r =
     let s = m .state in
@@ -128,20 +120,13 @@ cut-quadplane m why r =
       ramp = ramp-kept (s .mode) (cut .mode) (s .«elapsed_s») (cut .«elapsed_s») (m .«ramp_start_s») (row .start (enters-none (s .mode) s why)) (r .ramp);
     }
 
-pub set-quadplane : (m : LiftTransition) (s : Settings) → Binary32Settings s → QuadplaneRanges m → QuadplaneRanges (setConfigOf m (liftTransitionConfigOf s) .machine)
-set-quadplane m s h r = go (liftValidity (liftTransitionConfigOf s)) refl
-  where
-    go : (v : Validity) → liftValidity (liftTransitionConfigOf s) ≡ v → QuadplaneRanges (configIf v m (liftTransitionConfigOf s) .machine)
-    go Valid e = record { settings = quadplane-settings s h e; state = r .state; ramp = r .ramp }
-    go (Bad field) e = r
-
 -- ---- the share that it shows
 -- 0 and 1
 zero-in : InUnit zero32
 zero-in = (above-zero zero32 zero-amount, one-above)
 
 one-in : InUnit one32
-one-in = (one-above, le-refl-number one32 (le-number-right zero32 one32 one-above))
+one-in = (one-above, le-refl-number one32 (amount-number one32 one-amount))
 
 -- forward and back
 forward-in : (ramp : RampStart) (clock most : Float) → Amount clock → T (finite clock) → Positive most → RampRanges mode.ToPlane clock ramp → InUnit (forwardShare ramp clock most)

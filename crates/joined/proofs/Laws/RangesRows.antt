@@ -2,10 +2,10 @@
 -- timeout, or within its ramp. And a ramp's start stays at most the clock in ToPlane. Assumes nothing.
 use mathlib.Core.Path.{subst}
 use mathlib.Core.Bool.{Bool, true, false, not, _||_}
-use lib.Dec.{T}
+use lib.Dec.{T, T-not}
 use lib.Ieee.{Float, nan, inf, fin, ofBits, lt, le}
 use Rattle.numbers.specs.Numbers.{if_then_else_, _⊕_, _⊖_, zero32, finite}
-use Rattle.numbers.proofs.Laws.Order.{le-trans-number, le-number-right, le-top, not-lt→le}
+use Rattle.numbers.proofs.Laws.Order.{number, le-trans-number, le-number-right, le-top, not-lt→le}
 use Rattle.numbers.proofs.Laws.Units.{Amount}
 use Rattle.numbers.proofs.Laws.Operations.{add-gives}
 use Rattle.numbers.proofs.Laws.Ranged.{Positive, positive-amount, zero-amount, below-finite}
@@ -27,20 +27,19 @@ use Rattle.machines.specs.Rows.{primedState, reporting, inMode, entering, aband
 use Rattle.joined.proofs.Laws.RangesThrust.{if-cases}
 
 -- ---- tests that failed
--- a test of which the opposite failed
-pub twice-not : (b : Bool) → T (not (not b)) → T b
-twice-not true t = tt
-twice-not false t = absurd t
-
 -- the second of two
 pub or-failed : (a b : Bool) → T (not (a || b)) → T (not b)
 or-failed true b t = absurd t
 or-failed false b t = t
 
--- no test both passed and failed
-pub contradicts : (b : Bool) → T b → T (not b) → ⊥
-contradicts true t n = n
-contradicts false t n = t
+-- ---- amounts
+-- they are numbers
+pub amount-number : (x : Float) → Amount x → T (number x)
+amount-number x p = le-number-right zero32 x (above-zero x p)
+
+-- a clock that is not past a bound is within it
+pub in-bound : (clock bound : Float) → Amount clock → Positive bound → T (not (lt bound clock)) → T (le clock bound)
+in-bound clock bound p q h = not-lt→le bound clock (amount-number bound (positive-amount bound q)) (amount-number clock p) h
 
 -- ---- what is asked by the mode
 -- of the clock
@@ -96,18 +95,14 @@ pub record GoesOn (found : Found) (clock : Float) : Type 0 where
 
 -- not past a timeout
 pub in-time : (clock timeout : Float) → Amount clock → Positive timeout → T (not (lt timeout clock)) → T (finite clock)
-in-time clock timeout p q h =
-    let Q = positive-amount timeout q in
-    below-finite clock timeout p Q (q .ends)
-    (not-lt→le timeout clock (le-number-right zero32 timeout (above-zero timeout Q)) (le-number-right zero32 clock (above-zero clock p)) h)
+in-time clock timeout p q h = below-finite clock timeout p (positive-amount timeout q) (q .ends) (in-bound clock timeout p q h)
 
 -- not past a ramp: the time since the start of an infinite clock is infinite too
 pub in-ramp : (clock start ramp : Float) → Amount clock → T (finite start) → Positive ramp → T (not (le ramp (clock ⊖ start))) → T (finite clock)
 in-ramp nan start ramp p f r h = absurd (p .above)
 in-ramp (inf true) start ramp p f r h = absurd (p .above)
 in-ramp (inf false) start ramp p f r h =
-    contradicts (le ramp (inf false)) (le-top ramp (le-number-right zero32 ramp (above-zero ramp (positive-amount ramp r))))
-    (subst (λ (x : Float). T (not (le ramp x))) (infinity-minus start f) h)
+    T-not (le ramp (inf false)) (subst (λ (x : Float). T (not (le ramp x))) (infinity-minus start f) h) (le-top ramp (amount-number ramp (positive-amount ramp r)))
 in-ramp (fin s m e) start ramp p f r h = tt
 
 -- ---- the rows, from the state with gate g, mode, report r and clock c on

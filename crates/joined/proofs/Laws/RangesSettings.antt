@@ -1,6 +1,6 @@
 -- The settings that a machine holds are in their ranges: each was tested in the order of document 01, section 2, and its number is binary32. Only the ranges that the laws of
--- `Ranges` use are kept, with the verdict of the test. Assumes nothing.
-use mathlib.Core.Path.{_≡_, refl, subst}
+-- `Ranges` use are kept. Assumes nothing.
+use mathlib.Core.Path.{_≡_, refl, sym, subst}
 use mathlib.Core.Bool.{Bool, true, false}
 use mathlib.Core.List.{List, [], _∷_}
 use Prim.Native.Nat.{ℕ, suc}
@@ -30,16 +30,11 @@ abbrev Passed : List Bool → Type 0
 Passed [] = Unit {0}
 Passed (b ∷ bs) = T b × Passed bs
 
--- a field was bad
-abbrev IsBad : Validity → Type 0
-IsBad Valid = ⊥
-IsBad (Bad n) = Unit {0}
-
 -- a verdict with one field more is valid only if the field passed
-one-passed : (v : Validity) (n : ℕ) (b : Bool) → (v field n is b) ≡ Valid → (v ≡ Valid) × T b
-one-passed Valid n true e = (refl, tt)
-one-passed Valid n false e = absurd (subst IsBad e tt)
-one-passed (Bad k) n b e = absurd (subst IsBad e tt)
+one-passed : (v : Validity) (n : ℕ) (b : Bool) → (v field n is b) ≡ Valid → (v ≡ Valid) × (b ≡ true)
+one-passed Valid n true e = (refl, refl)
+one-passed Valid n false e = (refl, cc)
+one-passed (Bad k) n b e = (cc, cc)
 
 -- a verdict on many is valid only if all passed
 passed : (v : Validity) (n : ℕ) (bs : List Bool) → tested v n bs ≡ Valid → (v ≡ Valid) × Passed bs
@@ -47,7 +42,7 @@ passed v n [] e = (e, tt)
 passed v n (b ∷ bs) e =
     let rest = passed (v field n is b) (suc n) bs e in
     let one = one-passed v n b (rest .0) in
-    (one .0, (one .1, rest .1))
+    (one .0, (subst T (sym (one .1)) tt, rest .1))
 
 -- the tests of each airframe's fields, in their order
 abbrev pub tailsitterTests : Settings → List Bool
@@ -73,7 +68,6 @@ is-quarter x f t = record { held = f; above = and-l (lt zero32 x) (le x halfPi32
 
 -- ---- the tailsitter: its settings, and that valid ones are so
 pub record TailsitterSettings (c : TransitionConfig) : Type 0 where
-  pub valid : transitionValidity c ≡ Valid
   pub forward-rate : Positive (c .«forward_rate_radps»)
   pub max-tilt : Quarter (c .«forward_max_tilt_rad»)
   pub back-rate : Positive (c .«back_rate_radps»)
@@ -88,7 +82,6 @@ pub tailsitter-settings : (s : Settings) → Binary32Settings s → transitionVa
 tailsitter-settings s h e =
     let (t1, (t2, (t3, (t4, (t5, (t6, (t7, (t8, (t9, (t10, (t11, (t12, (t13, (t14, rest)))))))))))))) = passed Valid 1 (tailsitterTests s) e .1 in
     record {
-      valid = e;
       forward-rate = is-positive (s .n1) (h .0) t1;
       max-tilt = is-quarter (s .n3) (h .2) t3;
       back-rate = is-positive (s .n5) (h .4) t5;
@@ -102,7 +95,6 @@ tailsitter-settings s h e =
 
 -- ---- the quadplane: the same
 pub record QuadplaneSettings (c : LiftTransitionConfig) : Type 0 where
-  pub valid : liftValidity c ≡ Valid
   pub lift-ramp : Positive (c .«lift_ramp_s»)
   pub timeout : Positive (c .«timeout_s»)
   pub min-height : Limit (c .«min_height_m»)
@@ -115,7 +107,6 @@ pub quadplane-settings : (s : Settings) → Binary32Settings s → liftValidity 
 quadplane-settings s h e =
     let (t1, (t2, (t3, (t4, (t5, (t6, (t7, (t8, (t9, (t10, (t11, (t12, (t13, (t14, rest)))))))))))))) = passed Valid 1 (quadplaneTests s) e .1 in
     record {
-      valid = e;
       lift-ramp = is-positive (s .n2) (h .1) t2;
       timeout = is-positive (s .n3) (h .2) t3;
       min-height = is-limit (s .n4) (h .3) t4;

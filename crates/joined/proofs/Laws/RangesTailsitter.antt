@@ -1,7 +1,7 @@
--- The tailsitter keeps its ranges in every call, and the tilt that it shows is in range: the rows keep the clock, and a start tilt is the entry tilt that was tested or a constant.
+-- The tailsitter keeps its ranges in every update, and the tilt that it shows is in range: the rows keep the clock, and a start tilt is the entry tilt that was tested or a constant.
 -- Assumes nothing.
-use mathlib.Core.Path.{_≡_, refl}
-use mathlib.Core.Bool.{Bool, true, false, not, _&&_}
+use mathlib.Core.Path.{subst}
+use mathlib.Core.Bool.{Bool, true, false, not, _&&_, Bool·not-not}
 use lib.Dec.{T}
 use lib.Ieee.{Float, binary32, ofBits, lt, le}
 use lib.Ieee.Bits.{ofBits-fits}
@@ -16,24 +16,18 @@ use Rattle.numbers.proofs.Laws.Tilt.{tilt-forward, tilt-back}
 use Rattle.machines.specs.declared.FlightMode.{FlightMode}
 use Rattle.machines.specs.declared.FlightMode.the-variants as mode
 use Rattle.machines.specs.declared.FlightRegime.{FlightRegime}
-use Rattle.machines.specs.declared.ModeRefusal.{ModeRefusal}
 use Rattle.machines.specs.declared.InputRefusal.the-variants.{TimeStep, EntryTilt}
 use Rattle.machines.specs.declared.VehicleState.{VehicleState}
-use Rattle.machines.specs.declared.settings.Validity.{Validity}
-use Rattle.machines.specs.declared.settings.Validity.the-variants.{Valid, Bad}
 use Rattle.machines.specs.declared.settings.TransitionConfig.{TransitionConfig}
 use Rattle.machines.specs.declared.rows.TransitionState.{TransitionState}
 use Rattle.machines.specs.declared.vtol.Transition.{Transition}
 use Rattle.machines.specs.declared.vtol.TransitionUpdate.{TransitionUpdate}
-use Rattle.machines.specs.Settings.{transitionValidity}
 use Rattle.machines.specs.Rows.{begin}
-use Rattle.machines.specs.Transition.{unknownTilt, startTilt, badEntryTilt, foundOf, movedOf, settledOf, refusedBy, tiltIn, tiltOf, updateOf, primeOf, cutShortOf, configIf, setConfigOf}
-use Rattle.joined.specs.declared.settings.Settings.{Settings}
-use Rattle.joined.specs.Machine.{transitionConfigOf}
-use Rattle.joined.specs.List.{IsBinary32, Binary32Settings, TiltInRange}
-use Rattle.joined.proofs.Laws.RangesSettings.{TailsitterSettings, tailsitter-settings}
+use Rattle.machines.specs.Transition.{unknownTilt, startTilt, badEntryTilt, foundOf, movedOf, settledOf, refusedBy, tiltIn, tiltOf, updateOf}
+use Rattle.joined.specs.List.{IsBinary32, TiltInRange}
+use Rattle.joined.proofs.Laws.RangesSettings.{TailsitterSettings}
 use Rattle.joined.proofs.Laws.RangesThrust.{if-cases}
-use Rattle.joined.proofs.Laws.RangesRows.{ClockIn, StateRanges, GoesOn, primed-ranges, begin-clock, in-time, twice-not, or-failed, row-ranges, cut-ranges}
+use Rattle.joined.proofs.Laws.RangesRows.{ClockIn, StateRanges, GoesOn, begin-clock, in-time, or-failed, row-ranges}
 
 -- what is asked of a tailsitter
 pub record TailsitterRanges (m : Transition) : Type 0 where
@@ -57,7 +51,7 @@ unknown-angle mode.Plane = half-pi-angle
 
 -- refusal 2 is not met: a test that passed does so with its condition
 not-and : (a b : Bool) → T (not (a && not b)) → T a → T b
-not-and true b t u = twice-not b t
+not-and true b t u = subst T (Bool·not-not b) t
 not-and false b t u = absurd u
 
 -- the entry tilt, or a constant
@@ -93,7 +87,7 @@ update-tailsitter m dt requested v entryTilt f g r =
     let refused = refusedBy m EntryTilt in
     if-cases Kept (not (positive dt)) (refusedBy m TimeStep) (if bad then refused else settled) (λ t. r)
     (λ t.
-    let q = positive-amount dt (is-positive dt f (twice-not (positive dt) t)) in
+    let q = positive-amount dt (is-positive dt f (subst T (Bool·not-not (positive dt)) t)) in
     let p = begin-clock (m .state .mode) (m .state .«elapsed_s») dt (r .state .clock) q in
     if-cases Kept bad refused settled (λ u. r)
     (λ u.
@@ -104,20 +98,6 @@ update-tailsitter m dt requested v entryTilt f g r =
           if-holds Angle (moved .entered) (startTilt (moved .state .mode) noseUp entryTilt) (m .«start_tilt_rad»)
           (start-angle (moved .state .mode) noseUp entryTilt g u) (r .start);
     }))
-
--- a prime, a cut, and new settings
-pub prime-tailsitter : (m : Transition) (z : Float) → TailsitterRanges m → TailsitterRanges (primeOf m z .machine)
-prime-tailsitter m z r = record { settings = r .settings; state = primed-ranges z; start = r .start }
-
-pub cut-tailsitter : (m : Transition) (why : ModeRefusal) → TailsitterRanges m → TailsitterRanges (cutShortOf m why .machine)
-cut-tailsitter m why r = record { settings = r .settings; state = cut-ranges (m .state) why (r .state .clock) .state; start = r .start }
-
-pub set-tailsitter : (m : Transition) (s : Settings) → Binary32Settings s → TailsitterRanges m → TailsitterRanges (setConfigOf m (transitionConfigOf s) .machine)
-set-tailsitter m s h r = go (transitionValidity (transitionConfigOf s)) refl
-  where
-    go : (v : Validity) → transitionValidity (transitionConfigOf s) ≡ v → TailsitterRanges (configIf v m (transitionConfigOf s) .machine)
-    go Valid e = record { settings = tailsitter-settings s h e; state = r .state; start = r .start }
-    go (Bad field) e = r
 
 -- ---- the tilt that it shows
 -- by the mode

@@ -1,17 +1,16 @@
 -- The starred cases of document 01, section 11, as one list: `Starred`, over the definitions that the contracts of the joined machine cite. What is said of states and steps that
 -- meet premises comes with a flight from a new machine, worked out, so that nothing is said of none. Assumes nothing.
-use mathlib.Core.Path.{_≡_, refl, _∙_, ap}
+use mathlib.Core.Path.{_≡_, refl, sym, _∙_, ap}
 use mathlib.Core.Bool.{Bool, true, false, not}
 use mathlib.Core.List.{List, [], _∷_, reverse}
 use mathlib.Core.Option.{Option, some, none}
 use Prim.Native.Nat.{ℕ}
 use lib.Ieee.{Float, nan, ofBits, toBits, add, sub, mul, div, lt, le, eq, neg, isNan}
-use Rattle.numbers.specs.Numbers.{if_then_else_, _⊕_, _⊖_, floatOf, zero32, one32, two32}
+use Rattle.numbers.specs.Numbers.{_⊕_, _⊖_, floatOf, zero32, one32, two32}
 use Rattle.numbers.specs.Ranges.{positive}
 use Rattle.numbers.specs.Root.{rootOf}
 use Rattle.numbers.specs.Vectors.{noseUpOf}
 use Rattle.numbers.specs.declared.vector.Quaternion.{Quaternion}
-use Rattle.machines.specs.declared.FlightMode.{FlightMode}
 use Rattle.machines.specs.declared.FlightMode.the-variants as mode
 use Rattle.machines.specs.declared.FlightRegime.{FlightRegime}
 use Rattle.machines.specs.declared.FlightRegime.the-variants as regime
@@ -21,8 +20,6 @@ use Rattle.machines.specs.declared.MaybeRefusal.the-variants as refusal
 use Rattle.machines.specs.declared.Airspeed.{Airspeed}
 use Rattle.machines.specs.declared.Airspeed.the-variants as airspeed
 use Rattle.machines.specs.declared.VehicleState.{VehicleState}
-use Rattle.machines.specs.declared.settings.Validity.{Validity}
-use Rattle.machines.specs.declared.settings.Validity.the-variants.{Valid, Bad}
 use Rattle.machines.specs.declared.rows.Moved.{Moved}
 use Rattle.machines.specs.declared.vtol.Transition.{Transition}
 use Rattle.machines.specs.declared.lift.LiftTransition.{LiftTransition}
@@ -30,8 +27,8 @@ use Rattle.machines.specs.declared.lift.RampStart.the-variants.{Waiting}
 use Rattle.machines.specs.declared.handoff.ThrustHandoff.{ThrustHandoff}
 use Rattle.machines.specs.declared.deceleration.BackDeceleration.{BackDeceleration}
 use Rattle.machines.specs.Refusals.{reportOf}
-use Rattle.machines.specs.Settings.{liftValidity, transitionDefault, liftDefault}
-use Rattle.machines.specs.Gate.{forwardRefusal, highEnough, readingOf, atLeast}
+use Rattle.machines.specs.Settings.{transitionDefault, liftDefault}
+use Rattle.machines.specs.Gate.{forwardRefusal, highEnough, readingOf}
 use Rattle.machines.specs.Rows.{newState, begin, copterRow, toPlaneRow}
 use Rattle.machines.specs.Thrust.{newHandoff, startOf, activeOf}
 use Rattle.machines.specs.Transition as tailsitter
@@ -45,14 +42,16 @@ use Rattle.joined.specs.declared.machine.Airframe.{Airframe}
 use Rattle.joined.specs.declared.machine.Airframe.the-variants as airframe
 use Rattle.joined.specs.declared.machine.Machine.{Machine}
 use Rattle.joined.specs.declared.machine.Machine.the-variants as machine
+use Rattle.joined.specs.declared.machine.MachineUpdate.{MachineUpdate}
 use Rattle.joined.specs.declared.joined.Joined.{Joined}
 use Rattle.joined.specs.declared.joined.NewJoined.{NewJoined}
 use Rattle.joined.specs.declared.joined.NewJoined.the-variants as made
 use Rattle.joined.specs.Machine.{stateIn, pastRollLimitOf, liftTransitionConfigOf}
-use Rattle.joined.specs.Joined.{initial, newOf, stepOf, setOf, callOf}
+use Rattle.joined.specs.Joined.{initial, newOf, stepOf, setIf, callOf}
 use Rattle.joined.specs.Shown.{Shown, refused, line, shownOf, letterOf, flagOf}
 use Rattle.joined.specs.List.{after, answersOf, shownAll, modeAt, abandonmentAt, clockAt, minHeightOf, planeMinHeightOf, isAccepted, EachCall}
-use Rattle.joined.proofs.Laws.Effects.{movedIn, badTilt}
+use Rattle.joined.proofs.Laws.Effects.{movedIn, badTilt, set-cases}
+use Rattle.joined.proofs.Laws.Moves.{no-ramp}
 
 -- ---- numbers, by their bits
 
@@ -483,16 +482,8 @@ completes : (j : Joined) (i : StepInput) (m : Transition) → j .machine ≡ mac
 completes j i m is f down absent = row j i (f .accepted) (f .bank) .said ∙ simp (is, simp is at (f .to-plane), f .requested, down, absent)
 
 -- no ramp begins, whatever the row did
-no-start : (entered : Bool) (to : FlightMode) (minimum clock : Float)
-    → (if entered then Waiting else quadplane.rampIn to Waiting (atLeast (readingOf airspeed.Absent) minimum false) clock) ≡ Waiting
-no-start true to minimum clock = refl
-no-start false mode.Copter minimum clock = refl
-no-start false mode.Plane minimum clock = refl
-no-start false mode.ToPlane minimum clock = refl
-no-start false mode.ToCopter minimum clock = refl
-
 ramp-waits : (m : LiftTransition) (x : Moved) (v : VehicleState) → m .«ramp_start_s» ≡ Waiting → v .airspeed ≡ airspeed.Absent → quadplane.rampOf m x v ≡ Waiting
-ramp-waits m x v w absent = simp (w, absent) (no-start (x .entered) (x .state .mode) (m .config .«min_airspeed_mps») (x .state .«elapsed_s»))
+ramp-waits m x v w absent = simp (w, absent) (sym (no-ramp (x .entered) (x .state .mode) (x .state .«elapsed_s»)))
 
 step-waits : (m : LiftTransition) (h : ThrustHandoff) (d : BackDeceleration) (t : Float) (i : StepInput) (good cut : Bool) → positive (i .dt) ≡ good
     → pastRollLimitOf (machine.Quadplane m) (i .«bank_rad») ≡ cut → m .«ramp_start_s» ≡ Waiting → i .state .airspeed ≡ airspeed.Absent
@@ -501,18 +492,15 @@ step-waits m h d t i false cut p r w absent = simp p w
 step-waits m h d t i true true p r w absent = simp (p, r) w
 step-waits m h d t i true false p r w absent = simp (p, r) (ramp-waits m (quadplane.movedOf m (i .dt) (i .requested) (i .state)) (i .state) w absent)
 
-set-waits : (m : LiftTransition) (h : ThrustHandoff) (d : BackDeceleration) (t : Float) (s : Settings) (v : Validity) → liftValidity (liftTransitionConfigOf s) ≡ v
-    → m .«ramp_start_s» ≡ Waiting → NoRamp (setOf (joined (machine.Quadplane m) h d t) s .joined .machine)
-set-waits m h d t s Valid is w = simp is w
-set-waits m h d t s (Bad field) is w = simp is w
-
 call-waits : (m : Machine) (h : ThrustHandoff) (d : BackDeceleration) (t : Float) (c : Call) → NoRamp m → NoAirspeed c → NoRamp (callOf (joined m h d t) c .joined .machine)
 call-waits (machine.Tailsitter m) h d t c w absent = absurd w
 call-waits (machine.Quadplane m) h d t (call.Prime z) w absent = refl
 call-waits (machine.Quadplane m) h d t (call.Step i) w absent =
     step-waits m h d t i (positive (i .dt)) (pastRollLimitOf (machine.Quadplane m) (i .«bank_rad»)) refl refl w absent
 call-waits (machine.Quadplane m) h d t (call.Cut why) w absent = w
-call-waits (machine.Quadplane m) h d t (call.Settings s) w absent = set-waits m h d t s (liftValidity (liftTransitionConfigOf s)) refl w
+call-waits (machine.Quadplane m) h d t (call.Settings s) w absent =
+    let q = machine.Quadplane m in
+    set-cases (λ (u : MachineUpdate). NoRamp (setIf (u .answer) (joined q h d t) (u .machine) .joined .machine)) q s (λ e. w) (λ field. w)
 
 never-ramps : (j : Joined) (cs : List Call) → NoRamp (j .machine) → EachCall (λ k c. NoAirspeed c) j cs → NoRamp (after j cs .machine)
 never-ramps j [] w absent = w
@@ -526,41 +514,17 @@ unfolding ofBits lt
 inactive = (refl, λ from. refl)
 
 -- ---- the flights and the example
-flown-smallest : (a : Airframe) → flight a (prime ∷ plane smallest five ∷ []) ≡ some (C, 0, 0) ∷ some (F, 0, 0) ∷ []
+flown : (a : Airframe)
+    → (flight a (prime ∷ plane smallest five ∷ []) ≡ some (C, 0, 0) ∷ some (F, 0, 0) ∷ [])
+    × (flight a (prime ∷ plane one32 five ∷ []) ≡ some (C, 0, 0) ∷ some (F, 0, 0) ∷ [])
+    × (flight a (prime ∷ plane one32 below-five ∷ []) ≡ some (C, 0, 0) ∷ some (C, 0, 13) ∷ [])
+    × (flight a (prime ∷ plane one32 nan ∷ []) ≡ some (C, 0, 0) ∷ some (C, 0, 13) ∷ [])
+    × (flight a (prime ∷ plane one32 five ∷ plane above-fifteen five ∷ plane one32 nan ∷ []) ≡ some (C, 0, 0) ∷ some (F, 0, 0) ∷ some (C, 0, 14) ∷ some (C, 0, 14) ∷ [])
+    × (flight a (prime ∷ plane one32 five ∷ plane fifteen five ∷ []) ≡ some (C, 0, 0) ∷ some (F, 0, 0) ∷ some (F, 0, 0) ∷ [])
+    × (flight a (prime ∷ plane one32 five ∷ plane above-fifteen five ∷ []) ≡ some (C, 0, 0) ∷ some (F, 0, 0) ∷ some (C, 0, 14) ∷ [])
 unfolding ofBits toBits add sub mul div lt le eq neg isNan rootOf
-flown-smallest airframe.Tailsitter = refl
-flown-smallest airframe.Quadplane = refl
-
-flown-enters : (a : Airframe) → flight a (prime ∷ plane one32 five ∷ []) ≡ some (C, 0, 0) ∷ some (F, 0, 0) ∷ []
-unfolding ofBits toBits add sub mul div lt le eq neg isNan rootOf
-flown-enters airframe.Tailsitter = refl
-flown-enters airframe.Quadplane = refl
-
-flown-low : (a : Airframe) → flight a (prime ∷ plane one32 below-five ∷ []) ≡ some (C, 0, 0) ∷ some (C, 0, 13) ∷ []
-unfolding ofBits toBits add sub mul div lt le eq neg isNan rootOf
-flown-low airframe.Tailsitter = refl
-flown-low airframe.Quadplane = refl
-
-flown-unknown : (a : Airframe) → flight a (prime ∷ plane one32 nan ∷ []) ≡ some (C, 0, 0) ∷ some (C, 0, 13) ∷ []
-unfolding ofBits toBits add sub mul div lt le eq neg isNan rootOf
-flown-unknown airframe.Tailsitter = refl
-flown-unknown airframe.Quadplane = refl
-
-flown-abandoned : (a : Airframe)
-    → flight a (prime ∷ plane one32 five ∷ plane above-fifteen five ∷ plane one32 nan ∷ []) ≡ some (C, 0, 0) ∷ some (F, 0, 0) ∷ some (C, 0, 14) ∷ some (C, 0, 14) ∷ []
-unfolding ofBits toBits add sub mul div lt le eq neg isNan rootOf
-flown-abandoned airframe.Tailsitter = refl
-flown-abandoned airframe.Quadplane = refl
-
-flown-on : (a : Airframe) → flight a (prime ∷ plane one32 five ∷ plane fifteen five ∷ []) ≡ some (C, 0, 0) ∷ some (F, 0, 0) ∷ some (F, 0, 0) ∷ []
-unfolding ofBits toBits add sub mul div lt le eq neg isNan rootOf
-flown-on airframe.Tailsitter = refl
-flown-on airframe.Quadplane = refl
-
-flown-out : (a : Airframe) → flight a (prime ∷ plane one32 five ∷ plane above-fifteen five ∷ []) ≡ some (C, 0, 0) ∷ some (F, 0, 0) ∷ some (C, 0, 14) ∷ []
-unfolding ofBits toBits add sub mul div lt le eq neg isNan rootOf
-flown-out airframe.Tailsitter = refl
-flown-out airframe.Quadplane = refl
+flown airframe.Tailsitter = (refl, refl, refl, refl, refl, refl, refl)
+flown airframe.Quadplane = (refl, refl, refl, refl, refl, refl, refl)
 
 flown-complete : flight airframe.Tailsitter (prime ∷ plane one32 five ∷ step one32 regime.Plane five zero32 level airspeed.Absent half ∷ [])
     ≡ some (C, 0, 0) ∷ some (F, 0, 0) ∷ some (P, 1, 0) ∷ []
@@ -582,13 +546,13 @@ example = record {
 pub starred : Starred
 starred = record {
   dt-0-refused = λ j i is. refused-1 (j .machine) (j .handoff) (j .deceleration) (j .thrust) i is;
-  smallest-dt-taken = (smallest-taken, flown-smallest);
-  height-5-of-5-enters = (enters, flown-enters);
-  float-below-gives-13 = (too-low, flown-low);
-  nan-gives-13 = (unknown, flown-unknown);
-  abandoned-nan-gives-14 = (abandoned, flown-abandoned);
-  clock-15-of-15-goes-on = (goes-on, flown-on);
-  next-float-up-abandons = (times-out, flown-out);
+  smallest-dt-taken = (smallest-taken, λ a. flown a .0);
+  height-5-of-5-enters = (enters, λ a. flown a .1);
+  float-below-gives-13 = (too-low, λ a. flown a .2);
+  nan-gives-13 = (unknown, λ a. flown a .3);
+  abandoned-nan-gives-14 = (abandoned, λ a. flown a .4);
+  clock-15-of-15-goes-on = (goes-on, λ a. flown a .5);
+  next-float-up-abandons = (times-out, λ a. flown a .6);
   absent-completes-tailsitter = (completes, flown-complete);
   absent-never-ramps = (never-ramps, flown-waiting);
   duration-0-inactive = inactive;

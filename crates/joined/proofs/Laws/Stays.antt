@@ -4,7 +4,7 @@ use mathlib.Core.Path.{_≡_, refl, sym, ap, _∙_, subst}
 use mathlib.Core.Bool.{Bool, true, false, not, _&&_, _||_}
 use mathlib.Core.List.{List, [], _∷_, _++_}
 use mathlib.Core.Logic.{inl, inr}
-use Prim.Native.Nat.{ℕ, _-_, _≤_, _<_}
+use Prim.Native.Nat.{ℕ, _-_, _≤_}
 use native.Mathlib.Nat.{le-refl, lt-of-lt-of-le, lt-irrefl}
 use native.Mathlib.Omega.{arith}
 use lib.Dec.{T, lit<}
@@ -12,11 +12,11 @@ use lib.Ieee.{Float, lt, le}
 use Rattle.numbers.specs.Nearest.{units}
 use Rattle.numbers.specs.Numbers.{_⊕_, _⊖_, zero32, finite}
 use Rattle.numbers.specs.Vectors.{noseUpOf}
-use Rattle.numbers.proofs.Laws.Order.{number, lt→le, le-or-lt, not-lt→le, le-number-right, le-refl-number}
+use Rattle.numbers.proofs.Laws.Order.{lt→le, le-or-lt, le-refl-number}
 use Rattle.numbers.proofs.Laws.Units.{Amount, le→units}
 use Rattle.numbers.proofs.Laws.Rounded.{rnd, rnd-exact}
 use Rattle.numbers.proofs.Laws.Operations.{sub-gives}
-use Rattle.numbers.proofs.Laws.Rounding.{above-zero, difference-within}
+use Rattle.numbers.proofs.Laws.Rounding.{difference-within}
 use Rattle.numbers.proofs.Laws.Ranged.{Positive, positive-amount, positive-limit, positive-units}
 use Rattle.numbers.proofs.Laws.Clock.{Step, Reached, reached-none, reached-step, steps-within, steps-ramping}
 use Rattle.machines.specs.declared.FlightMode.{FlightMode}
@@ -24,7 +24,6 @@ use Rattle.machines.specs.declared.FlightMode.the-variants as mode
 use Rattle.machines.specs.declared.lift.RampStart.{RampStart}
 use Rattle.machines.specs.declared.lift.RampStart.the-variants.{Waiting, Begun}
 use Rattle.machines.specs.declared.lift.LiftTransition.{LiftTransition}
-use Rattle.machines.specs.declared.vtol.Transition.{Transition}
 use Rattle.machines.specs.declared.settings.TransitionConfig.{TransitionConfig}
 use Rattle.machines.specs.declared.settings.LiftTransitionConfig.{LiftTransitionConfig}
 use Rattle.machines.specs.Rows.{begin, clockAfter}
@@ -39,22 +38,17 @@ use Rattle.joined.specs.Machine.{modeIs, stateIn, modeOf, transitioning}
 use Rattle.joined.specs.List.{IsBinary32, Binary32Call, Binary32Calls, after, modeAt, clockAt, isAcceptedStep, atLeastTick, endsIn, tick32, EachCall, count, oneMoreIf, readsMinimum, SameSettings}
 use Rattle.joined.specs.List.{KeepsSettings, BelowSum, Bounded, InTransition}
 use Rattle.joined.proofs.Laws.Effects.{rampStartIn, foundIn}
-use Rattle.joined.proofs.Laws.Moves.{rampAt, Edge, edge}
+use Rattle.joined.proofs.Laws.Moves.{failed, rampAt, Edge, edge}
 use Rattle.joined.proofs.Laws.Moves as edges
 use Rattle.joined.proofs.Laws.History.{next, each-next, here-next}
-use Rattle.joined.proofs.Laws.RangesRows.{ClockIn, StartIn}
-use Rattle.joined.proofs.Laws.RangesTailsitter.{TailsitterRanges}
+use Rattle.joined.proofs.Laws.RangesRows.{or-failed, amount-number, in-bound, ClockIn, StartIn}
 use Rattle.joined.proofs.Laws.RangesQuadplane.{BegunRanges, RampRanges, QuadplaneRanges}
 use Rattle.joined.proofs.Laws.Ranges.{MachineRanges, machine-state, Ranges, every-ranges}
 
 -- ---- numbers
-amount-number : (x : Float) → Amount x → T (number x)
-amount-number x p = le-number-right zero32 x (above-zero x p)
-
--- a clock that is not past a bound
-in-bound : (clock bound : Float) → Amount clock → Positive bound → lt bound clock ≡ false → T (le clock bound)
-in-bound clock bound p q e =
-    not-lt→le bound clock (amount-number bound (positive-amount bound q)) (amount-number clock p) (subst (λ (b : Bool). T (not b)) (sym e) tt)
+-- a clock that was not seen past a bound is within it, with the settings that were kept
+kept-bound : {C : Type 0} (bound : C → Float) (c d : C) (seen clock : Float) → c ≡ d → seen ≡ clock → T (not (lt (bound c) seen)) → Amount clock → Positive (bound d) → T (le clock (bound d))
+kept-bound bound c d seen clock same t h p q = in-bound clock (bound d) p q (rw (same, t) at h)
 
 -- a clock that is not a ramp past its start
 in-ramp : (clock start ramp : Float) → Amount clock → T (finite clock) → Amount start → T (le start clock) → Positive ramp → le ramp (clock ⊖ start) ≡ false
@@ -147,10 +141,9 @@ climb-ramp m n i reads same t done late r g en h = by (m .«ramp_start_s») refl
 
     waited : m .«ramp_start_s» ≡ Waiting → T (le (n .state .«elapsed_s») (n .config .«timeout_s»))
     waited e =
-        in-bound (n .state .«elapsed_s») (n .config .«timeout_s») (g .state .clock) (g .settings .timeout)
-        (subst (λ (x : Float). lt (n .config .«timeout_s») x ≡ false) t
-        (subst (λ (c : LiftTransitionConfig). lt (c .«timeout_s») (begin (m .state) (i .dt) .«elapsed_s») ≡ false) same
-        (subst (λ (y : RampStart). quadplane.rampTimedOut y (begin (m .state) (i .dt) .«elapsed_s») (m .config .«timeout_s») ≡ false) e late)))
+        kept-bound (λ (c : LiftTransitionConfig). c .«timeout_s») (m .config) (n .config) (begin (m .state) (i .dt) .«elapsed_s») (n .state .«elapsed_s») same t
+        (failed (subst (λ (y : RampStart). quadplane.rampTimedOut y (begin (m .state) (i .dt) .«elapsed_s») (m .config .«timeout_s») ≡ false) e late)) (g .state .clock)
+        (g .settings .timeout)
 
     by : (ramp : RampStart) → m .«ramp_start_s» ≡ ramp → (b : Bool) → reads ≡ b → OnTime mode.ToPlane (machine.Quadplane n)
     by Waiting e false eb =
@@ -173,41 +166,30 @@ climb-ramp m n i reads same t done late r g en h = by (m .«ramp_start_s») refl
               (subst (λ (y : RampStart). quadplane.rampDone y (begin (m .state) (i .dt) .«elapsed_s») (m .config .«lift_ramp_s») ≡ false) e done))),
         )
 
--- a tailsitter's clock is within its timeout
-within-timeout : (m n : Transition) (i : StepInput) → m .config ≡ n .config → begin (m .state) (i .dt) .«elapsed_s» ≡ n .state .«elapsed_s»
-    → lt (m .config .«timeout_s») (begin (m .state) (i .dt) .«elapsed_s») ≡ false → TailsitterRanges n → T (le (n .state .«elapsed_s») (n .config .«timeout_s»))
-within-timeout m n i same t late g =
-    in-bound (n .state .«elapsed_s») (n .config .«timeout_s») (g .state .clock) (g .settings .timeout)
-    (subst (λ (x : Float). lt (n .config .«timeout_s») x ≡ false) t
-    (subst (λ (c : TransitionConfig). lt (c .«timeout_s») (begin (m .state) (i .dt) .«elapsed_s») ≡ false) same late))
-
 climb-time : (m n : Machine) (i : StepInput) → SameSettings m n → modeOf m ≡ mode.ToPlane → modeOf n ≡ mode.ToPlane → stateIn n .«elapsed_s» ≡ stateIn m .«elapsed_s» ⊕ i .dt
     → foundIn m i .completed ≡ false → foundIn m i .timedOut ≡ false → rampStartIn n ≡ quadplane.rampIn mode.ToPlane (rampStartIn m) (readsMinimum m i) (stateIn n .«elapsed_s»)
     → MachineRanges n → OnTime mode.ToPlane m → OnTime mode.ToPlane n
 climb-time (machine.Tailsitter m) (machine.Tailsitter n) i same em en t done late r g h =
-    within-timeout m n i same (seen (machine.Tailsitter m) i mode.ToPlane (n .state .«elapsed_s») em t) late g
+    kept-bound (λ (c : TransitionConfig). c .«timeout_s») (m .config) (n .config) (begin (m .state) (i .dt) .«elapsed_s») (n .state .«elapsed_s») same
+    (seen (machine.Tailsitter m) i mode.ToPlane (n .state .«elapsed_s») em t) (failed late) (g .state .clock) (g .settings .timeout)
 climb-time (machine.Quadplane m) (machine.Quadplane n) i same em en t done late r g h =
     climb-ramp m n i (readsMinimum (machine.Quadplane m) i) same (seen (machine.Quadplane m) i mode.ToPlane (n .state .«elapsed_s») em t) done late r g en h
 climb-time (machine.Tailsitter m) (machine.Quadplane n) i same em en t done late r g h = absurd same
 climb-time (machine.Quadplane m) (machine.Tailsitter n) i same em en t done late r g h = absurd same
 
 -- ---- a step that goes on in ToCopter
-or-false : (a b : Bool) → (a || b) ≡ false → b ≡ false
-or-false true b e = absurd (subst T e tt)
-or-false false b e = e
-
 slow-time : (m n : Machine) (i : StepInput) → SameSettings m n → modeOf m ≡ mode.ToCopter → stateIn n .«elapsed_s» ≡ stateIn m .«elapsed_s» ⊕ i .dt → foundIn m i .ended ≡ false
     → MachineRanges n → OnTime mode.ToCopter n
 slow-time (machine.Tailsitter m) (machine.Tailsitter n) i same em t ended g =
     let clock = begin (m .state) (i .dt) .«elapsed_s» in
-    within-timeout m n i same (seen (machine.Tailsitter m) i mode.ToCopter (n .state .«elapsed_s») em t)
-    (or-false (le (m .config .«back_done_cosine») (noseUpOf (i .state .attitude))) (lt (m .config .«timeout_s») clock) ended) g
+    kept-bound (λ (c : TransitionConfig). c .«timeout_s») (m .config) (n .config) clock (n .state .«elapsed_s») same
+    (seen (machine.Tailsitter m) i mode.ToCopter (n .state .«elapsed_s») em t)
+    (or-failed (le (m .config .«back_done_cosine») (noseUpOf (i .state .attitude))) (lt (m .config .«timeout_s») clock) (failed ended)) (g .state .clock) (g .settings .timeout)
 slow-time (machine.Quadplane m) (machine.Quadplane n) i same em t ended g =
     let clock = begin (m .state) (i .dt) .«elapsed_s» in
-    in-bound (n .state .«elapsed_s») (n .config .«back_timeout_s») (g .state .clock) (g .settings .back-timeout)
-    (subst (λ (x : Float). lt (n .config .«back_timeout_s») x ≡ false) (seen (machine.Quadplane m) i mode.ToCopter (n .state .«elapsed_s») em t)
-    (subst (λ (c : LiftTransitionConfig). lt (c .«back_timeout_s») clock ≡ false) same
-    (or-false (quadplane.slowed (m .config) (i .state)) (lt (m .config .«back_timeout_s») clock) ended)))
+    kept-bound (λ (c : LiftTransitionConfig). c .«back_timeout_s») (m .config) (n .config) clock (n .state .«elapsed_s») same
+    (seen (machine.Quadplane m) i mode.ToCopter (n .state .«elapsed_s») em t)
+    (or-failed (quadplane.slowed (m .config) (i .state)) (lt (m .config .«back_timeout_s») clock) (failed ended)) (g .state .clock) (g .settings .back-timeout)
 slow-time (machine.Tailsitter m) (machine.Quadplane n) i same em t ended g = absurd same
 slow-time (machine.Quadplane m) (machine.Tailsitter n) i same em t ended g = absurd same
 

@@ -1,7 +1,7 @@
 -- The wrong turns of document 01, section 11, each shut out of the joined machine. But for the last, what is said of any state comes with a flight from a new machine, worked out.
 -- Assumes nothing.
 use mathlib.Core.Path.{_≡_, refl, _∙_, ap}
-use mathlib.Core.Bool.{Bool, true, false, _||_}
+use mathlib.Core.Bool.{Bool, true, false, or-true}
 use mathlib.Core.List.{List, [], _∷_}
 use mathlib.Core.Option.{Option, some, none}
 use Prim.Native.Nat.{ℕ}
@@ -24,6 +24,7 @@ use Rattle.machines.specs.declared.handoff.ThrustHandoff.{ThrustHandoff}
 use Rattle.machines.specs.declared.deceleration.BackDeceleration.{BackDeceleration}
 use Rattle.machines.specs.Refusals.{reportOf}
 use Rattle.machines.specs.Rows.{Found, rowIn, reporting, begin, finish, resumeUnless, toCopterRow}
+use Rattle.machines.specs.Rows as rows
 use Rattle.machines.specs.Thrust.{activeOf}
 use Rattle.joined.specs.declared.settings.Settings.{Settings}
 use Rattle.joined.specs.declared.call.StepInput.{StepInput}
@@ -42,7 +43,7 @@ use Rattle.joined.specs.List.{modeAt, abandonmentAt, clockAt}
 use Rattle.joined.proofs.Laws.Effects.{foundIn, badTilt}
 use Rattle.joined.proofs.Laws.Starred.{half, four, five, ten, twelve, fifteen, above-fifteen}
 use Rattle.joined.proofs.Laws.Starred.{C, P, F, B, brief, briefs, shownFrom, flight, defaults, changed, step, level, prime, plane, settings, flying}
-use Rattle.joined.proofs.Laws.Starred.{Accepted, Forward, Underway, joined, row, times-out}
+use Rattle.joined.proofs.Laws.Starred.{Accepted, Forward, Underway, joined, tell, row, times-out}
 
 abbrev pub minus-zero : Float
 minus-zero = floatOf 0x8000_0000
@@ -123,20 +124,12 @@ unfolding ofBits toBits add sub mul div lt le eq neg isNan rootOf
 flown-quadplane = refl
 
 -- ---- the report
-copter-cut : (m : Machine) (h : ThrustHandoff) (d : BackDeceleration) (t : Float) (why : ModeRefusal) → stateIn m .mode ≡ mode.Copter
-    → LeavesReport (joined m h d t) (cutOf (joined m h d t) why) C 0
-copter-cut (machine.Tailsitter m) h d t why at = (simp at, simp at)
-copter-cut (machine.Quadplane m) h d t why at = (simp at, simp at)
-
-plane-cut : (m : Machine) (h : ThrustHandoff) (d : BackDeceleration) (t : Float) (why : ModeRefusal) → stateIn m .mode ≡ mode.Plane
-    → LeavesReport (joined m h d t) (cutOf (joined m h d t) why) P 0
-plane-cut (machine.Tailsitter m) h d t why at = (simp at, simp at)
-plane-cut (machine.Quadplane m) h d t why at = (simp at, simp at)
-
-back-cut : (m : Machine) (h : ThrustHandoff) (d : BackDeceleration) (t : Float) (why : ModeRefusal) → stateIn m .mode ≡ mode.ToCopter
-    → LeavesReport (joined m h d t) (cutOf (joined m h d t) why) C 1
-back-cut (machine.Tailsitter m) h d t why at = (simp at, simp at)
-back-cut (machine.Quadplane m) h d t why at = (simp at, simp at)
+-- a cut that leaves the report in the state leaves it in the answer
+cut-left : (m : Machine) (h : ThrustHandoff) (d : BackDeceleration) (t : Float) (why : ModeRefusal) (letter handoff : ℕ)
+    → tell (rows.cutOf (stateIn m) why) ≡ some (letter, handoff, reportOf (stateIn m .refusal)) → rows.cutOf (stateIn m) why .state .refusal ≡ stateIn m .refusal
+    → LeavesReport (joined m h d t) (cutOf (joined m h d t) why) letter handoff
+cut-left (machine.Tailsitter m) h d t why letter handoff said left = (said, left)
+cut-left (machine.Quadplane m) h d t why letter handoff said left = (said, left)
 
 roll-cut : (m : Machine) (h : ThrustHandoff) (d : BackDeceleration) (t : Float) (i : StepInput) → stateIn m .mode ≡ mode.ToCopter → positive (i .dt) ≡ true
     → badTilt m i ≡ false → pastRollLimitOf m (i .«bank_rad») ≡ true → LeavesReport (joined m h d t) (stepOf (joined m h d t) i) C 1
@@ -217,15 +210,11 @@ forward-first : (j : Joined) (i : StepInput) → Underway j i → clockAt j ≡ 
 forward-first j i u start is = times-out j i u (simp (start, is, first-clock)) .0
 
 -- past the timeout it has ended, done or not
-over : (done : Bool) → (done || true) ≡ true
-over true = refl
-over false = refl
-
 back-ends : (m : Machine) (i : StepInput) → stateIn m .mode ≡ mode.ToCopter → backTimeoutOf m ≡ fifteen → stateIn m .«elapsed_s» ≡ zero32 → i .dt ≡ above-fifteen
     → foundIn m i .ended ≡ true
 unfolding ofBits lt
-back-ends (machine.Tailsitter m) i at time start is = simp (at, time, start, is, first-clock, over)
-back-ends (machine.Quadplane m) i at time start is = simp (at, time, start, is, first-clock, over)
+back-ends (machine.Tailsitter m) i at time start is = simp (at, time, start, is, first-clock, or-true)
+back-ends (machine.Quadplane m) i at time start is = simp (at, time, start, is, first-clock, or-true)
 
 back-first : (j : Joined) (i : StepInput) → modeAt j ≡ mode.ToCopter → Accepted j i → pastRollLimitOf (j .machine) (i .«bank_rad») ≡ false → i .requested ≡ regime.Copter
     → backTimeoutOf (j .machine) ≡ fifteen → clockAt j ≡ zero32 → i .dt ≡ above-fifteen → brief (stepOf j i .answer) ≡ some (C, 1, 0)
@@ -236,9 +225,9 @@ shut-out = record {
   completion-first = (complete-first, flown-tailsitter, flown-quadplane);
   abandonment-kept = (keeps, flown-floored);
   report-left = (
-    λ j why at. copter-cut (j .machine) (j .handoff) (j .deceleration) (j .thrust) why at,
-    λ j why at. plane-cut (j .machine) (j .handoff) (j .deceleration) (j .thrust) why at,
-    λ j why at. back-cut (j .machine) (j .handoff) (j .deceleration) (j .thrust) why at,
+    λ j why at. cut-left (j .machine) (j .handoff) (j .deceleration) (j .thrust) why C 0 (simp at) (simp at),
+    λ j why at. cut-left (j .machine) (j .handoff) (j .deceleration) (j .thrust) why P 0 (simp at) (simp at),
+    λ j why at. cut-left (j .machine) (j .handoff) (j .deceleration) (j .thrust) why C 1 (simp at) (simp at),
     λ j i at a bank. roll-cut (j .machine) (j .handoff) (j .deceleration) (j .thrust) i at (a .time) (a .tilt) bank,
     flown-cut,
   );

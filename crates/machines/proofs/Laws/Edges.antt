@@ -20,7 +20,7 @@ use Rattle.machines.specs.declared.lift.RampStart.the-variants.{Waiting}
 use Rattle.machines.specs.declared.sink.GuardedThrust.the-variants as guarded
 use Rattle.machines.specs.declared.vtol.Transition.{Transition}
 use Rattle.machines.specs.Refusals.{reportOf}
-use Rattle.machines.specs.Gate.{primedGate, newGate, forwardRefusalOf, forwardRefusal, floorTrips, readingOf}
+use Rattle.machines.specs.Gate.{primedGate, forwardRefusalOf, forwardRefusal, floorTrips, readingOf}
 use Rattle.machines.specs.Thrust.{newHandoff, activeOf, guardSinkOf, pitchOf}
 use Rattle.machines.specs.Forward.{splitOf}
 use Rattle.machines.specs.Transition as tailsitter
@@ -41,7 +41,7 @@ report-at z = reportOf (forwardRefusalOf (primedGate zero32) z five zero32)
 
 -- height 5 of 5 enters; the float below, NaN, +∞ and the time before any prime give 13
 pub heights : (report-at five ≡ 0) × (report-at (floatOf 0x409F_FFFF) ≡ 13) × (report-at nan ≡ 13) × (report-at (inf false) ≡ 13)
-    × (reportOf (forwardRefusalOf newGate five zero32 zero32) ≡ 13)
+    × (reportOf (forwardRefusalOf (primedGate nan) five zero32 zero32) ≡ 13)
 unfolding ofBits lt le sub isNan
 heights = (refl, refl, refl, refl, refl)
 

@@ -9,9 +9,8 @@ use native.Mathlib.Nat.{suc-mul, mul-le-mul-right, mul-lt-mul-of-pos-right, le-o
 use native.Mathlib.Omega.{arith}
 use lib.Dec.{T, lit≤, lit<}
 use lib.Pow.{pow-pos}
-use lib.Ieee.{Float, nan, inf, fin, binary32, ofBits, round, fits, lt, le, sub}
+use lib.Ieee.{Float, nan, inf, fin, binary32, ofBits, fits, lt, le, sub}
 use lib.Ieee.Bits.{ofBits-fits}
-use lib.Ieee.Exact.{HasValue, round-exact}
 use lib.Ieee.Positive.{num, den, den-pos}
 use Rattle.numbers.specs.Nearest.{units}
 use Rattle.numbers.specs.Numbers.{_⊕_, _⊖_, zero32, floatOf, finite}
@@ -52,17 +51,6 @@ ticks-own k h =
       | inl e ↦ subst (λ (n : ℕ). rnd n ≡ n) (sym (two-to-the-24 k e)) (rnd-exact 1 163 (lit< tt) (lit< tt))
       | inr l ↦ rnd-exact k 139 l (under-2-277 k l)
     ]
-
--- and rounding gives it exactly
-pub ticks-exact : (k : ℕ) → k ≤ 2 ^ 24 → HasValue (round binary32 false k 1024) false k 1024
-ticks-exact k h =
-    elim (eq-or-lt-of-le h) [
-      | inl e ↦ round-exact binary32 false k 1024 1 163 (lit< tt) (lit< tt) (lit< tt) (scaled ∙ ap (λ (n : ℕ). n * 1024) (two-to-the-24 k e))
-      | inr l ↦ round-exact binary32 false k 1024 k 139 (lit< tt) l (under-2-277 k l) scaled
-    ]
-  where
-    scaled : k * 2 ^ 149 ≡ k * 2 ^ 139 * 1024
-    scaled = sym (mul-assoc k (2 ^ 139) 1024)
 
 -- ---- steps
 -- a binary32 number that is 1/1024 or more

@@ -3,7 +3,7 @@ use mathlib.Core.Path.{_≡_, refl}
 use mathlib.Core.Bool.{true, false}
 use lib.Ieee.{Float, nan, inf, ofBits, toBits, lt, le, neg, div, isNan}
 use Rattle.numbers.specs.Numbers.{floatOf, bitsOf, zero32, one32, degree32, clampOf, minOf, maxOf}
-use Rattle.numbers.specs.Ranges.{limit, positive}
+use Rattle.numbers.specs.Ranges.{limit}
 use Rattle.numbers.specs.Saturation.{throttleOf, saturateSymmetricOf}
 use Rattle.numbers.specs.Root.{rootOf}
 
@@ -23,11 +23,6 @@ bits = (refl, refl)
 pub limits : (limit minus-zero ≡ true) × (limit (inf false) ≡ false) × (limit nan ≡ false)
 unfolding ofBits le
 limits = (refl, refl, refl)
-
--- 2 ^ -149 is positive; 0 and NaN are not
-pub positives : (positive (floatOf 1) ≡ true) × (positive zero32 ≡ false) × (positive nan ≡ false)
-unfolding ofBits lt
-positives = (refl, refl, refl)
 
 -- −0 and NaN pass a clamp to 0..1
 pub clamps : (clampOf minus-zero zero32 one32 ≡ minus-zero) × (clampOf nan zero32 one32 ≡ nan)

@@ -151,10 +151,7 @@ rnd-own (fin s m e) t =
     let h = shape s m e t in
     ap rnd (h .1) ∙ rnd-exact m (h .0) (few-digits s m e t) (subst (λ (x : ℕ). x < 2 ^ 277) (h .1) (units-under s m e t)) ∙ sym (h .1)
 
--- a fraction on one side of a number that rounding leaves rounds to the same side, or to it
-pub rounded-above : (a c u : ℕ) → 0 < c → rnd u ≡ u → u * c ≤ a * 2 ^ 149 → u ≤ rounded a c
-rounded-above a c u C e h = subst (λ (x : ℕ). x ≤ rounded a c) e (rounded-mono u (2 ^ 149) a c (pow-pos 149) C h)
-
+-- what lies on one side of a number that rounding leaves rounds to the same side, or to it
 pub rounded-below : (a c u : ℕ) → 0 < c → rnd u ≡ u → a * 2 ^ 149 ≤ u * c → rounded a c ≤ u
 rounded-below a c u C e h = subst (λ (x : ℕ). rounded a c ≤ x) e (rounded-mono a c u (2 ^ 149) C (pow-pos 149) h)
 

@@ -1,9 +1,8 @@
 //! One machine led by its calls, and the updates that lead it.
 
 use super::List;
-use super::ranges::fields;
 use crate::machine::{Airframe, Machine, Step, reason};
-use crate::settings::{Settings, quadplane_defaults, tailsitter_defaults};
+use crate::settings::{self, Settings, defaults, fields, timeout_fields};
 use stable_flight::FlightMode;
 
 /// Settings with round numbers, every field apart from the others.
@@ -87,26 +86,17 @@ impl Air {
         }
     }
 
-    pub fn option(&self) -> u8 {
-        u8::from(self.plane) + 2 * u8::from(self.airspeed.is_some())
-    }
-
-    /// Numbers 1 to 13. An airspeed that is absent has a number that would count.
-    pub fn numbers(&self, absent: f32) -> [f32; 13] {
+    /// The update as a step, of which a machine reads numbers 1 to 13. An airspeed that is absent has a number that would count.
+    pub fn step(&self, absent: f32) -> Step {
         let (v, a, q) = (self.velocity, self.acceleration, self.attitude);
         let airspeed = self.airspeed.unwrap_or(absent);
-        [
-            self.dt, self.z, v[0], v[1], v[2], a[0], a[1], q[0], q[1], q[2], q[3], airspeed, self.tilt,
-        ]
-    }
-}
-
-/// The update of these numbers 1 to 13.
-fn step_of(option: u8, numbers: &[f32; 13]) -> Step {
-    Step {
-        plane_requested: option % 2 == 1,
-        airspeed_present: option >= 2,
-        numbers: std::array::from_fn(|i| numbers.get(i).copied().unwrap_or(0.0)),
+        Step {
+            plane_requested: self.plane,
+            airspeed_present: self.airspeed.is_some(),
+            numbers: [
+                self.dt, self.z, v[0], v[1], v[2], a[0], a[1], q[0], q[1], q[2], q[3], airspeed, self.tilt, 0.0, 0.0,
+            ],
+        }
     }
 }
 
@@ -122,14 +112,10 @@ pub struct Flight<'a> {
 impl<'a> Flight<'a> {
     /// The machine that the list begins with.
     pub fn new(list: &'a mut List, airframe: Airframe) -> Flight<'a> {
-        let defaults = match airframe {
-            Airframe::Tailsitter => tailsitter_defaults(),
-            Airframe::Quadplane => quadplane_defaults(),
-        };
         Flight {
             list,
             airframe,
-            machine: Machine::new(airframe, &defaults).expect("the default settings are good"),
+            machine: Machine::new(airframe, &defaults(airframe)).expect("the default settings are good"),
             home: f32::NAN,
         }
     }
@@ -156,6 +142,19 @@ impl<'a> Flight<'a> {
         self.add(1, 0, &settings[..fields(self.airframe)]);
     }
 
+    pub fn new_round(&mut self) {
+        self.new_machine(&self.round());
+    }
+
+    pub fn set_round(&mut self) {
+        self.set(&self.round());
+    }
+
+    /// The round settings with some fields changed.
+    pub fn set_changed(&mut self, changes: &[(usize, f32)]) {
+        self.set(&self.changed(changes));
+    }
+
     pub fn prime(&mut self, z: f32) {
         self.machine.prime(z);
         self.home = z;
@@ -165,13 +164,12 @@ impl<'a> Flight<'a> {
 
     pub fn step(&mut self, air: Air) {
         let absent = self.list.random.pick(&[0.0, 1000.0]);
-        self.numbers(air.option(), &air.numbers(absent));
+        self.update(&air.step(absent));
     }
 
-    /// An update with these numbers 1 to 13.
-    pub fn numbers(&mut self, option: u8, numbers: &[f32; 13]) {
-        let _ = self.machine.update(&step_of(option, numbers));
-        self.add(3, option, numbers);
+    pub fn update(&mut self, step: &Step) {
+        let _ = self.machine.update(step);
+        self.add(3, step.option(), &step.numbers[..13]);
     }
 
     pub fn cut(&mut self, number: u8) {
@@ -179,7 +177,8 @@ impl<'a> Flight<'a> {
         self.add(4, number, &[]);
     }
 
-    pub fn settings(&self) -> Settings {
+    /// The settings with round numbers.
+    fn round(&self) -> Settings {
         match self.airframe {
             Airframe::Tailsitter => TAILSITTER,
             Airframe::Quadplane => QUADPLANE,
@@ -187,25 +186,13 @@ impl<'a> Flight<'a> {
     }
 
     /// The round settings with some fields changed, each by its number from 1.
-    pub fn changed(&self, fields: &[(usize, f32)]) -> Settings {
-        let mut settings = self.settings();
-        for (field, x) in fields {
-            settings[field - 1] = *x;
-        }
-        settings
+    pub fn changed(&self, changes: &[(usize, f32)]) -> Settings {
+        settings::changed(&self.round(), changes)
     }
 
-    /// The numbers of fields that both airframes have: the forward timeout, the two heights, the back timeout.
-    pub fn timeout_field(&self) -> usize {
-        if self.airframe == Airframe::Tailsitter { 7 } else { 3 }
-    }
-
-    pub fn height_fields(&self) -> (usize, usize) {
-        if self.airframe == Airframe::Tailsitter { (8, 9) } else { (4, 5) }
-    }
-
+    /// The round settings' timeout of the way back.
     pub fn back_timeout(&self) -> f32 {
-        if self.airframe == Airframe::Tailsitter { 15.0 } else { 10.0 }
+        self.round()[timeout_fields(self.airframe)[1] - 1]
     }
 
     /// Into a mode as if just entered, without an abandonment and with home at z 0: by the shortest way.
@@ -245,7 +232,7 @@ impl<'a> Flight<'a> {
     /// Whether an update leads from one mode to another here, with home at z 0.
     fn leads_to(&self, air: Air, from: FlightMode, to: FlightMode) -> bool {
         let mut ahead = self.machine.clone();
-        let next = ahead.update(&step_of(air.option(), &air.numbers(0.0)));
+        let next = ahead.update(&air.step(0.0));
         self.home == 0.0 && self.machine.mode() == from && next.is_ok_and(|moved| moved.mode == to)
     }
 

@@ -1,22 +1,19 @@
 //! Kinds 50 to 54 and 60 to 64: the two machines, each led through its modes.
 
 use super::flight::{Air, Flight, HOVER, LEVEL};
-use super::ranges::{fields, good};
-use super::{List, SMALLEST, around, places, quadplane, tailsitter, unit_quaternion};
-use crate::machine::Airframe;
-use crate::random::{CLASSES, Class};
+use super::ranges::good;
+use super::{BAD_DT, List, around, places, quadplane, tailsitter, unit_quaternion};
+use crate::machine::{Airframe, MODES};
+use crate::random::{CLASSES, Class, SMALLEST};
+use crate::settings::{fields, height_fields, timeout_fields};
 use stable_flight::FlightMode;
 use std::f32::consts::PI;
-
-const MODES: [FlightMode; 4] = [FlightMode::Copter, FlightMode::ToPlane, FlightMode::Plane, FlightMode::ToCopter];
-const BAD_DT: [f32; 6] = [0.0, -0.0, f32::NAN, f32::INFINITY, f32::NEG_INFINITY, -SMALLEST];
 
 pub fn add(list: &mut List, airframe: Airframe) {
     let mut flight = Flight::new(list, airframe);
     let f = &mut flight;
     with_defaults(f);
-    let settings = f.settings();
-    f.new_machine(&settings);
+    f.new_round();
     heights(f);
     two_heights(f);
     clocks(f);
@@ -83,7 +80,7 @@ fn heights(f: &mut Flight) {
 
 /// The larger of the two minimums counts.
 fn two_heights(f: &mut Flight) {
-    let (first, second) = f.height_fields();
+    let [first, second] = height_fields(f.airframe);
     for (min, plane_min) in [(8.0, 5.0), (5.0, 8.0), (0.0, 0.0), (-0.0, 0.0), (0.0, SMALLEST), (6.0, 0.0)] {
         let settings = f.changed(&[(first, min), (second, plane_min)]);
         f.new_machine(&settings);
@@ -92,8 +89,7 @@ fn two_heights(f: &mut Flight) {
             f.step(HOVER.z(z));
         }
     }
-    let settings = f.settings();
-    f.new_machine(&settings);
+    f.new_round();
 }
 
 /// Clocks at the timeout and at the next float, forward and back.
@@ -175,17 +171,15 @@ fn floors(f: &mut Flight) {
         f.step(LEVEL.z(z));
     }
     // A floor of 0 is off, the least one is on.
-    let (_, field) = f.height_fields();
+    let [_, field] = height_fields(f.airframe);
     for floor in [0.0, -0.0, SMALLEST] {
         f.enter(FlightMode::Plane);
-        let settings = f.changed(&[(field, floor)]);
-        f.set(&settings);
+        f.set_changed(&[(field, floor)]);
         f.step(LEVEL.z(SMALLEST));
         f.step(LEVEL.z(0.0));
         f.step(LEVEL.z(-100.0));
     }
-    let settings = f.settings();
-    f.set(&settings);
+    f.set_round();
     // Below the floor in the other modes.
     for mode in [FlightMode::ToPlane, FlightMode::ToCopter] {
         f.enter(mode);
@@ -285,37 +279,30 @@ fn cuts(f: &mut Flight) {
 fn settings_in_modes(f: &mut Flight) {
     for mode in MODES {
         f.enter(mode);
-        let faster = f.changed(&[(1, 0.75), (2, 0.5), (5, 2.0), (6, 0.75)]);
-        f.set(&faster);
+        f.set_changed(&[(1, 0.75), (2, 0.5), (5, 2.0), (6, 0.75)]);
         f.step(LEVEL.copter());
         f.enter(mode);
         f.step(if mode == FlightMode::Copter { HOVER.z(1.0) } else { HOVER });
-        let bad = f.changed(&[(9, f32::NAN), (15, f32::NAN)]);
-        f.set(&bad);
-        let settings = f.settings();
-        f.set(&settings);
+        f.set_changed(&[(9, f32::NAN), (15, f32::NAN)]);
+        f.set_round();
         f.step(HOVER.dt(1.0));
     }
     // The report and the abandonment stand.
     f.enter(FlightMode::ToPlane);
     f.cut(12);
-    let settings = f.changed(&[(f.timeout_field(), 2.0)]);
-    f.set(&settings);
+    f.set_changed(&[(timeout_fields(f.airframe)[0], 2.0)]);
     f.step(HOVER);
     // A shorter timeout counts from the next step.
     f.enter(FlightMode::ToPlane);
     f.step(HOVER.dt(2.0));
     f.step(HOVER.dt(SMALLEST));
     f.step(HOVER.dt(1e-3));
-    let settings = f.settings();
-    f.set(&settings);
+    f.set_round();
     f.enter(FlightMode::ToPlane);
     f.step(HOVER.dt(3.0));
-    let settings = f.changed(&[(f.timeout_field(), 2.0)]);
-    f.set(&settings);
+    f.set_changed(&[(timeout_fields(f.airframe)[0], 2.0)]);
     f.step(HOVER.dt(0.5));
-    let settings = f.settings();
-    f.set(&settings);
+    f.set_round();
 }
 
 /// Refusals 1 and 2 in each mode: the state is kept, the report too.
@@ -336,24 +323,22 @@ fn refusals(f: &mut Flight) {
         f.step(HOVER.tilt(4.0).dt(f32::NAN));
         f.step(LEVEL.nose_up(f32::NAN).tilt(f32::NAN).copter());
     }
-    let settings = f.settings();
     f.prime(0.0);
     f.step(HOVER.z(1.0));
     f.step(HOVER.dt(0.0));
-    f.set(&settings);
+    f.set_round();
     f.step(HOVER.tilt(-1.0).z(1.0));
-    f.set(&settings);
+    f.set_round();
 }
 
 /// A prime or a new machine in each mode.
 fn primes(f: &mut Flight) {
-    let settings = f.settings();
     for mode in MODES {
         f.enter(mode);
         f.prime(3.0);
         f.step(HOVER.z(8.0));
         f.be_in(mode);
-        f.new_machine(&settings);
+        f.new_round();
         f.step(HOVER);
     }
     // It clears an abandonment.
@@ -404,15 +389,15 @@ fn update_classes(f: &mut Flight) {
     for (count, (place, class, turn)) in read.enumerate() {
         let (mode, air) = class_place(f.airframe, place, turn);
         f.be_in(mode);
-        let mut numbers = air.numbers(0.0);
+        let mut step = air.step(0.0);
         for other in unread {
-            numbers[*other] = f.list.random.of_class(CLASSES[(count + count / 6 + other) % 6]);
+            step.numbers[*other] = f.list.random.of_class(CLASSES[(count + count / 6 + other) % 6]);
         }
-        numbers[place] = f.list.random.of_class(class);
+        step.numbers[place] = f.list.random.of_class(class);
         if place == 1 && class == Class::Huge && turn == 0 {
-            numbers[place] = f32::MAX;
+            step.numbers[place] = f32::MAX;
         }
-        f.numbers(air.option(), &numbers);
+        f.update(&step);
     }
 }
 
@@ -441,8 +426,7 @@ fn class_place(airframe: Airframe, place: usize, turn: usize) -> (FlightMode, Ai
 
 /// A long flight by random calls, with random settings.
 fn random_flight(f: &mut Flight) {
-    let settings = f.settings();
-    f.new_machine(&settings);
+    f.new_round();
     f.prime(0.0);
     for turn in 0..34 {
         let chance = f.list.random.below(40);

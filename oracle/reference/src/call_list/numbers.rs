@@ -1,7 +1,7 @@
 //! Kinds 1 to 13, and a few records that no kind is.
 
-use super::{List, SMALLEST, UNIT_EDGES, around, betweens, picks, spread, spreads, unit_quaternion};
-use crate::random::{CLASSES, Class, Random};
+use super::{List, UNIT_EDGES, around, betweens, picks, spread, spreads, unit_quaternion};
+use crate::random::{CLASSES, Class, Random, SMALLEST};
 
 const SIGNED: [f32; 4] = [0.0, -0.0, 1.0, -1.0];
 

@@ -1,7 +1,7 @@
 //! Kinds 40 to 45: the split, the forward transition's pitch and the hold.
 
-use super::{List, SMALLEST, UNIT_EDGES, around, betweens, places};
-use crate::random::Random;
+use super::{List, UNIT_EDGES, around, betweens, places};
+use crate::random::{Random, SMALLEST};
 use std::f32::consts::FRAC_PI_2;
 
 pub fn add_split(list: &mut List) {

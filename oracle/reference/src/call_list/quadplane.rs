@@ -1,7 +1,8 @@
 //! The quadplane's own edges: airspeed, lift ramp, slowing, back ramp.
 
+use super::around;
 use super::flight::{Air, Flight, HOVER, LEVEL};
-use super::{SMALLEST, around};
+use crate::random::SMALLEST;
 use stable_flight::FlightMode;
 
 pub fn add(f: &mut Flight) {
@@ -28,14 +29,12 @@ fn airspeeds(f: &mut Flight) {
         f.step(HOVER);
     }
     for (min, airspeed) in [(0.0, -0.0), (-0.0, 0.0), (0.0, -SMALLEST), (0.0, f32::NAN)] {
-        let settings = f.changed(&[(1, min)]);
-        f.set(&settings);
+        f.set_changed(&[(1, min)]);
         f.enter(FlightMode::ToPlane);
         f.step(HOVER.airspeed(Some(airspeed)));
         f.step(HOVER.airspeed(None));
     }
-    let settings = f.settings();
-    f.set(&settings);
+    f.set_round();
 }
 
 /// Ramps that end exactly at their time, one float before it and after it, from several starts.
@@ -88,11 +87,9 @@ fn changed_ramps(f: &mut Flight) {
         f.enter(FlightMode::ToPlane);
         f.step(LEVEL);
         f.step(HOVER.dt(1.0));
-        let settings = f.changed(&[(2, ramp_s)]);
-        f.set(&settings);
+        f.set_changed(&[(2, ramp_s)]);
         f.step(HOVER);
-        let settings = f.settings();
-        f.set(&settings);
+        f.set_round();
     }
 }
 
@@ -126,14 +123,12 @@ fn ramp_and_timeout(f: &mut Flight) {
     f.cut(15);
     f.step(HOVER);
     // Clocks that pass the largest number.
-    let settings = f.changed(&[(3, f32::MAX), (2, 3e38), (8, f32::MAX), (6, 1e38)]);
-    f.set(&settings);
+    f.set_changed(&[(3, f32::MAX), (2, 3e38), (8, f32::MAX), (6, 1e38)]);
     f.enter_with(f32::MAX, 1.0);
     f.enter_with(1e38, 2e38);
     f.step(LEVEL.copter().dt(3e38));
     f.step(LEVEL.copter().dt(3e38));
-    let settings = f.settings();
-    f.set(&settings);
+    f.set_round();
 }
 
 impl Flight<'_> {
@@ -169,14 +164,12 @@ fn slowed(f: &mut Flight) {
     f.enter(FlightMode::ToCopter);
     f.step(LEVEL.copter().speed(7.0).airspeed(Some(1.0)));
     f.step(LEVEL.copter().speed(5.0).airspeed(Some(90.0)));
-    let settings = f.changed(&[(7, 0.0)]);
-    f.set(&settings);
+    f.set_changed(&[(7, 0.0)]);
     f.enter(FlightMode::ToCopter);
     for speed in [0.0, -0.0, SMALLEST, -SMALLEST] {
         f.step(LEVEL.copter().speed(speed));
     }
-    let settings = f.settings();
-    f.set(&settings);
+    f.set_round();
     turned_speeds(f);
 }
 
@@ -220,11 +213,9 @@ fn back_ramps(f: &mut Flight) {
     f.enter(FlightMode::ToCopter);
     f.step(LEVEL.copter().dt(1.0));
     for ramp_s in [8.0, 0.5, SMALLEST, f32::MAX] {
-        let settings = f.changed(&[(6, ramp_s)]);
-        f.set(&settings);
+        f.set_changed(&[(6, ramp_s)]);
     }
-    let settings = f.settings();
-    f.set(&settings);
+    f.set_round();
 }
 
 /// Shares with all their digits, on both ways.
@@ -232,8 +223,7 @@ fn rounded_shares(f: &mut Flight) {
     for _ in 0..3 {
         let ramps = [0; 2].map(|_| f.list.random.between(2.5, 6.0));
         let dts = [0; 5].map(|_| f.list.random.between(0.3, 1.2));
-        let settings = f.changed(&[(2, ramps[0]), (6, ramps[1])]);
-        f.set(&settings);
+        f.set_changed(&[(2, ramps[0]), (6, ramps[1])]);
         f.enter(FlightMode::ToPlane);
         f.step(LEVEL.dt(dts[0]));
         f.step(LEVEL.dt(dts[1]));
@@ -243,6 +233,5 @@ fn rounded_shares(f: &mut Flight) {
         f.step(LEVEL.dt(dts[3]).copter());
         f.step(LEVEL.dt(dts[4]).copter());
     }
-    let settings = f.settings();
-    f.set(&settings);
+    f.set_round();
 }

@@ -1,9 +1,9 @@
 //! Kinds 20 to 24: each field at each end of its range, and what good settings are made from.
 
-use super::{List, SMALLEST, around, places};
+use super::{List, around, places};
 use crate::machine::Airframe;
-use crate::random::Random;
-use crate::settings::{Settings, quadplane_defaults, tailsitter_defaults};
+use crate::random::{Random, SMALLEST};
+use crate::settings::{Settings, defaults, fields};
 use std::f32::consts::{FRAC_PI_2, PI};
 
 /// The range of a field, as far as the list needs it: numbers without an upper end, or from 0 to an end.
@@ -32,13 +32,6 @@ fn ranges(airframe: Airframe) -> &'static [Range] {
     }
 }
 
-fn defaults(airframe: Airframe) -> Settings {
-    match airframe {
-        Airframe::Tailsitter => tailsitter_defaults(),
-        Airframe::Quadplane => quadplane_defaults(),
-    }
-}
-
 /// Settings well inside every range.
 pub fn good(airframe: Airframe, random: &mut Random) -> Settings {
     let mut settings = [0.0; 17];
@@ -49,11 +42,6 @@ pub fn good(airframe: Airframe, random: &mut Random) -> Settings {
         };
     }
     settings
-}
-
-/// The number of settings.
-pub fn fields(airframe: Airframe) -> usize {
-    ranges(airframe).len()
 }
 
 /// Numbers at the ends of a range, within and without.

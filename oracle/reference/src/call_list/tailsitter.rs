@@ -1,7 +1,8 @@
 //! The tailsitter's own edges: done cosines, airspeed, entry tilt, tilt.
 
+use super::around;
 use super::flight::{Flight, HOVER, LEVEL};
-use super::{SMALLEST, around};
+use crate::random::SMALLEST;
 use stable_flight::FlightMode;
 use std::f32::consts::PI;
 
@@ -36,14 +37,12 @@ fn done(f: &mut Flight) {
     }
     // New cosines count from the next step.
     f.enter(FlightMode::ToPlane);
-    let settings = f.changed(&[(16, 1.0), (17, SMALLEST)]);
-    f.set(&settings);
+    f.set_changed(&[(16, 1.0), (17, SMALLEST)]);
     f.step(HOVER);
     f.step(LEVEL.copter());
     f.step(LEVEL.copter().nose_up(0.0));
     f.step(LEVEL.copter().nose_up(SMALLEST));
-    let settings = f.settings();
-    f.set(&settings);
+    f.set_round();
 }
 
 /// The airspeed at the minimum and beside it, absent and not valid.
@@ -56,15 +55,13 @@ fn airspeeds(f: &mut Flight) {
     }
     // No minimum.
     for min in [0.0, -0.0] {
-        let settings = f.changed(&[(4, min)]);
-        f.set(&settings);
+        f.set_changed(&[(4, min)]);
         for airspeed in [0.0, -0.0] {
             f.enter(FlightMode::ToPlane);
             f.step(LEVEL.airspeed(Some(airspeed)));
         }
     }
-    let settings = f.settings();
-    f.set(&settings);
+    f.set_round();
 }
 
 /// Entry tilts at the ends of their range, forward and back, and nose-up cosines that are not finite.
@@ -110,15 +107,13 @@ fn tilt_ramps(f: &mut Flight) {
     f.step(LEVEL.copter().dt(1.0));
     // Rates that pass the largest number or that do not move the tilt.
     for rate in [f32::MAX, SMALLEST, 1.1] {
-        let settings = f.changed(&[(1, rate), (5, rate)]);
-        f.set(&settings);
+        f.set_changed(&[(1, rate), (5, rate)]);
         f.enter(FlightMode::ToPlane);
         f.step(HOVER.dt(2.0));
         f.enter(FlightMode::ToCopter);
         f.step(LEVEL.copter().dt(1.1));
     }
-    let settings = f.settings();
-    f.set(&settings);
+    f.set_round();
 }
 
 /// Tilts with all their digits, on both ways.
@@ -126,8 +121,7 @@ fn rounded_tilts(f: &mut Flight) {
     for _ in 0..3 {
         let rates = [f.list.random.between(0.25, 0.35), f.list.random.between(0.35, 0.4)];
         let tilts = [f.list.random.between(0.0, 0.05), f.list.random.between(1.45, 1.5)];
-        let settings = f.changed(&[(1, rates[0]), (5, rates[1])]);
-        f.set(&settings);
+        f.set_changed(&[(1, rates[0]), (5, rates[1])]);
         f.prime(0.0);
         f.step(HOVER.tilt(tilts[0]));
         for air in [HOVER, LEVEL.copter()] {
@@ -139,6 +133,5 @@ fn rounded_tilts(f: &mut Flight) {
             f.step(LEVEL.tilt(tilts[1]).copter());
         }
     }
-    let settings = f.settings();
-    f.set(&settings);
+    f.set_round();
 }

@@ -1,9 +1,7 @@
 //! Kinds 30 to 35: the handoff, the sink guard and the deceleration.
 
-use super::{List, SMALLEST, around, betweens, places};
-use crate::random::Random;
-
-const BAD_DT: [f32; 6] = [0.0, -0.0, f32::NAN, f32::INFINITY, f32::NEG_INFINITY, -SMALLEST];
+use super::{BAD_DT, List, around, betweens, places};
+use crate::random::{Random, SMALLEST};
 
 pub fn add_handoff(list: &mut List) {
     first_handoff(list);

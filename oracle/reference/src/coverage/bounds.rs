@@ -1,8 +1,8 @@
 //! Items of clocks at their bounds, of handoffs and thrust, and of the pitch of the way back.
 
 use super::{Counts, Item, Seen, airframe_word, no_line, no_step, place};
-use crate::machine::Step;
-use crate::track::{Track, transitioning};
+use crate::machine::{Step, transitioning};
+use crate::track::Track;
 use stable_flight::FlightMode;
 
 const DEMANDS: [&str; 6] = ["ordinary", "NaN", "below 0", "above 1", "-0", "1"];

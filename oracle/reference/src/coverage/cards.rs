@@ -1,9 +1,9 @@
 //! Items of whole cards: refusals, lengths, kinds and options, shapes of chains.
 
-use super::{AIRFRAMES, Counts, Item, airframe_word, numbers};
+use super::{Counts, Item, airframe_word, numbers};
 use crate::card::{self, MOST_RECORDS, RECORD_BYTES, Record};
-use crate::flights::fields;
-use crate::machine::{Airframe, Refusal, bad_field};
+use crate::machine::{AIRFRAMES, Airframe, Refusal};
+use crate::settings::{bad_field, fields};
 
 pub fn name(counts: &mut Counts) {
     counts.name_all("card refused 6", &lengths(&[]));

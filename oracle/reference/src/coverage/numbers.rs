@@ -1,10 +1,10 @@
 //! Items of single numbers: every class in every place of a step, a prime and the settings, and the ends of each setting's range.
 
 use super::{Counts, airframe_word};
-use crate::flights::{ends, fields, past_ends};
-use crate::machine::{Airframe, Step, bad_field};
+use crate::flights::{ends, past_ends};
+use crate::machine::{Airframe, Step};
 use crate::random::{CLASSES, Class, class_of};
-use crate::settings::Settings;
+use crate::settings::{Settings, bad_field, fields};
 use crate::track::Track;
 
 fn step_item(airframe: Airframe, number: usize, class: Class, refusal: u8) -> String {

@@ -1,10 +1,9 @@
 //! Items of the rows of document 01, section 4, with the roll cut of section 6: what a call does in each mode.
 
-use super::{Counts, Item, Seen, mode_word, no_line, no_step, numbers, place};
-use crate::flights::fields;
-use crate::machine::Step;
-use crate::settings::Settings;
-use crate::track::{Track, forward_speed, nose_up, transitioning, valid_airspeed};
+use super::{Counts, Item, Seen, no_line, no_step, numbers, place};
+use crate::machine::{Step, transitioning};
+use crate::settings::{Settings, fields};
+use crate::track::{Track, forward_speed, nose_up, valid_airspeed};
 use stable_flight::{FlightMode, Vec3};
 use std::f32::consts::PI;
 
@@ -301,7 +300,7 @@ fn lift_ramp(seen: &Seen<Step>) -> Vec<Item> {
 fn plane(seen: &Seen<Step>) -> Vec<Item> {
     let (height, floor, bank) = (seen.height_m(), seen.before.plane_min_height_m(), seen.call.bank_rad());
     let enters = seen.updated_to(FlightMode::ToCopter);
-    let (falls, on) = (enters && seen.asked(), seen.goes_on());
+    let (trips, on) = (enters && seen.asked(), seen.goes_on());
     let mut items = vec![
         ("goes on", on),
         ("Copter request enters ToCopter", enters && !seen.asked()),
@@ -309,12 +308,12 @@ fn plane(seen: &Seen<Step>) -> Vec<Item> {
             "Copter request below the floor enters ToCopter without abandonment",
             enters && !seen.asked() && height < floor,
         ),
-        ("floor enters ToCopter and abandons with 16", falls && seen.report() == 16),
+        ("floor enters ToCopter and abandons with 16", trips && seen.report() == 16),
         ("height exactly the floor goes on", on && floor > 0.0 && height == floor),
-        ("height one float below the floor trips it", falls && height == floor.next_down()),
+        ("height one float below the floor trips it", trips && height == floor.next_down()),
         ("height NaN goes on, floor set", on && floor > 0.0 && height.is_nan()),
         ("height infinite goes on, floor set", on && floor > 0.0 && height == f32::INFINITY),
-        ("height minus infinite trips the floor", falls && height == f32::NEG_INFINITY),
+        ("height minus infinite trips the floor", trips && height == f32::NEG_INFINITY),
         ("height below 0 goes on, floor 0", on && floor == 0.0 && height < 0.0),
         ("bank past the limit does nothing", bank.abs() > seen.before.roll_limit_rad()),
     ];
@@ -376,7 +375,7 @@ fn sink_guard(seen: &Seen<Step>) -> Vec<Item> {
     let (climb, limit, back) = (seen.call.numbers[4], seen.before.field(12), seen.before.field(11));
     let (on, thrust) = (seen.goes_on(), seen.line.thrust);
     let set = on && limit > 0.0;
-    let endless = set && climb == f32::NEG_INFINITY && seen.before.field(13) == 0.0 && back > 0.0;
+    let infinite = set && climb == f32::NEG_INFINITY && seen.before.field(13) == 0.0 && back > 0.0;
     let off = on && limit == 0.0 && climb < 0.0;
     let exact = set && climb == -limit;
     vec![
@@ -389,7 +388,7 @@ fn sink_guard(seen: &Seen<Step>) -> Vec<Item> {
         ),
         ("sink one float past the limit", set && climb == (-limit).next_down()),
         ("sink with the limit 0, guard does not act", off && thrust == back),
-        ("endless sink with gain 0 gives thrust 0", endless && thrust == 0.0),
+        ("infinite sink with gain 0 gives thrust 0", infinite && thrust == 0.0),
         ("climb NaN, guard does not act", set && climb.is_nan() && thrust == back),
     ]
 }
@@ -632,7 +631,7 @@ fn prime(seen: &Seen<f32>) -> Vec<Item> {
 
 pub fn count_prime(counts: &mut Counts, seen: &Seen<f32>) {
     let mode = place(seen.before.airframe, seen.before.mode);
-    debug_assert_eq!(mode_word(seen.after.mode), "Copter");
+    debug_assert_eq!(seen.after.mode, FlightMode::Copter);
     counts.reach_all(&mode, &prime(seen));
     numbers::count_prime(counts, seen.before.airframe, *seen.call);
 }

@@ -1,23 +1,10 @@
 //! Records laid out as cards: good chains of every shape, and cards that are refused.
 
 use super::classes;
-use super::flight::{Flight, RecordBytes, header};
-use crate::card::{MOST_RECORDS, RECORD_BYTES};
+use super::flight::{Flight, header};
+use crate::card::{MOST_RECORDS, RECORD_BYTES, RecordBytes, in_order, set_next};
 use crate::machine::Airframe;
 use crate::random::Random;
-
-fn set_next(record: &mut RecordBytes, next: usize) {
-    record[2..4].copy_from_slice(&(next as u16).to_le_bytes());
-}
-
-/// The records one after the other.
-pub fn in_order(mut records: Vec<RecordBytes>) -> Vec<u8> {
-    let last = records.len() - 1;
-    for (i, record) in records.iter_mut().enumerate() {
-        set_next(record, if i == last { 0 } else { i + 1 });
-    }
-    records.concat()
-}
 
 /// The records in any places, with `unreached` records of any bytes among them.
 pub fn scattered(random: &mut Random, records: &[RecordBytes], unreached: usize) -> Vec<u8> {

@@ -1,12 +1,11 @@
 //! Numbers of every class in every place: in steps, in primes and in settings.
 
-use super::each_mode::MODES;
 use super::flight::Flight;
 use super::usual;
 use crate::joined::Call;
-use crate::machine::{Airframe, bad_field};
-use crate::random::{CLASSES, Class, Random};
-use crate::settings::Settings;
+use crate::machine::{Airframe, MODES};
+use crate::random::{CLASSES, Class, Random, SMALLEST};
+use crate::settings::{Settings, bad_field, fields};
 use stable_flight::FlightMode;
 use std::f32::consts::{FRAC_PI_2, PI};
 
@@ -29,23 +28,15 @@ fn form(random: &mut Random, form: u64) -> f32 {
 
 /// The least and the largest number that a setting takes.
 pub fn ends(airframe: Airframe, field: usize) -> (f32, f32) {
-    let (tiny, most) = (f32::from_bits(1), f32::MAX);
+    let most = f32::MAX;
     match (airframe, field) {
-        (Airframe::Tailsitter, 2 | 6) | (Airframe::Quadplane, 13) => (tiny, FRAC_PI_2.next_down()),
-        (Airframe::Tailsitter, 3) => (tiny, FRAC_PI_2),
+        (Airframe::Tailsitter, 2 | 6) | (Airframe::Quadplane, 13) => (SMALLEST, FRAC_PI_2.next_down()),
+        (Airframe::Tailsitter, 3) => (SMALLEST, FRAC_PI_2),
         (Airframe::Tailsitter, 10 | 11) | (Airframe::Quadplane, 11) => (0.0, 1.0),
-        (_, 15) => (tiny, PI),
-        (Airframe::Tailsitter, 16 | 17) => (tiny, 1.0),
-        (Airframe::Tailsitter, 1 | 5 | 7) | (Airframe::Quadplane, 2 | 3 | 6 | 8 | 12) => (tiny, most),
+        (_, 15) => (SMALLEST, PI),
+        (Airframe::Tailsitter, 16 | 17) => (SMALLEST, 1.0),
+        (Airframe::Tailsitter, 1 | 5 | 7) | (Airframe::Quadplane, 2 | 3 | 6 | 8 | 12) => (SMALLEST, most),
         _ => (0.0, most),
-    }
-}
-
-/// The number of settings of an airframe.
-pub fn fields(airframe: Airframe) -> usize {
-    match airframe {
-        Airframe::Tailsitter => 17,
-        Airframe::Quadplane => 15,
     }
 }
 
@@ -57,7 +48,7 @@ pub fn with_neighbours(x: f32, others: &[f32]) -> Vec<f32> {
 /// The least number below a setting's range, and the least above it.
 pub fn past_ends(airframe: Airframe, field: usize) -> (f32, f32) {
     let (least, largest) = ends(airframe, field);
-    let below = if least == 0.0 { -f32::from_bits(1) } else { 0.0 };
+    let below = if least == 0.0 { -SMALLEST } else { 0.0 };
     (below, largest.next_up())
 }
 
@@ -135,8 +126,7 @@ pub fn primes(flight: &mut Flight) {
     for class in CLASSES {
         let z_m = flight.random.of_class(class);
         flight.call(Call::Prime(z_m));
-        let mut step = flight.plain();
-        step.plane_requested = true;
+        let mut step = flight.request(true);
         step.numbers[1] = flight.random.pick(&[z_m, -z_m, 100.0, f32::MAX]);
         flight.step(step);
     }

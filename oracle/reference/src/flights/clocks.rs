@@ -2,6 +2,7 @@
 
 use super::flight::{Flight, around, dt_to};
 use crate::machine::Step;
+use crate::random::SMALLEST;
 use stable_flight::FlightMode;
 
 /// What a clock is brought to.
@@ -41,7 +42,7 @@ impl Flight {
     }
 
     /// Leaves a mode, so that it can be entered anew.
-    fn enter_anew(&mut self, mode: FlightMode) -> bool {
+    pub fn enter_anew(&mut self, mode: FlightMode) -> bool {
         if self.track.mode == mode {
             self.advance();
         }
@@ -63,6 +64,14 @@ impl Flight {
         all[first..].to_vec()
     }
 
+    /// The step, with the dt that brings a time exactly to another, if there is one.
+    fn step_to(&mut self, mut step: Step, time_s: f32, target_s: f32) {
+        if let Some(dt) = dt_to(time_s, target_s) {
+            step.numbers[0] = dt;
+        }
+        self.step(step);
+    }
+
     fn approach_timeout(&mut self, mode: FlightMode) {
         if !self.enter_anew(mode) {
             return;
@@ -77,11 +86,8 @@ impl Flight {
             if self.track.mode != mode || self.track.ramp_start_s.is_some() {
                 return;
             }
-            let mut step = self.step_at_timeout(mode);
-            if let Some(dt) = dt_to(self.track.clock_s, target) {
-                step.numbers[0] = dt;
-            }
-            self.step(step);
+            let step = self.step_at_timeout(mode);
+            self.step_to(step, self.track.clock_s, target);
         }
     }
 
@@ -126,19 +132,16 @@ impl Flight {
         }
         let mut step = self.ramp_step();
         let timeout = self.track.timeout_s();
-        step.numbers[0] = (timeout * self.random.between(0.4, 1.0)).max(f32::from_bits(1));
+        step.numbers[0] = (timeout * self.random.between(0.4, 1.0)).max(SMALLEST);
         self.step(step);
         let Some(start) = self.track.ramp_start_s else {
             return;
         };
-        let (mut step, ramp) = (self.hold(), self.track.field(2));
+        let (step, ramp) = (self.hold(), self.track.field(2));
         let apart = |clock: &f32| (clock - start >= ramp) != (*clock >= start + ramp);
         let near = around(start + ramp);
         let clock = near.into_iter().find(apart).unwrap_or(near[0]);
-        if let Some(dt) = dt_to(self.track.clock_s, clock) {
-            step.numbers[0] = dt;
-        }
-        self.step(step);
+        self.step_to(step, self.track.clock_s, clock);
     }
 
     fn approach_back_ramp(&mut self) {
@@ -147,11 +150,8 @@ impl Flight {
         }
         self.wait();
         for target in self.targets(self.track.field(6)) {
-            let mut step = self.hold();
-            if let Some(dt) = dt_to(self.track.clock_s, target) {
-                step.numbers[0] = dt;
-            }
-            self.step(step);
+            let step = self.hold();
+            self.step_to(step, self.track.clock_s, target);
         }
     }
 
@@ -171,11 +171,8 @@ impl Flight {
             return;
         }
         for target in targets {
-            let mut step = self.hold();
-            if let Some(dt) = dt_to(self.track.handoff_elapsed_s, *target) {
-                step.numbers[0] = dt;
-            }
-            self.step(step);
+            let step = self.hold();
+            self.step_to(step, self.track.handoff_elapsed_s, *target);
         }
     }
 }

@@ -3,15 +3,14 @@
 use super::flight::Flight;
 use super::rows::NOT_FINITE;
 use crate::joined::Call;
-use crate::machine::Step;
+use crate::machine::{MODES, Step};
+use crate::random::SMALLEST;
+use crate::settings::{airspeed_field, changed, height_fields, timeout_fields};
 use stable_flight::FlightMode;
 use std::f32::consts::PI;
 
-pub const MODES: [FlightMode; 4] = [FlightMode::Copter, FlightMode::ToPlane, FlightMode::Plane, FlightMode::ToCopter];
-
 const IN_EACH_MODE: u64 = 30;
 const SEQUENCES: u64 = 28;
-const TINY: f32 = f32::from_bits(1);
 
 /// The next `count` of all that is done in turn.
 pub fn some(flight: &mut Flight, turn: u64, count: u64) {
@@ -30,7 +29,7 @@ impl Flight {
     fn in_mode(&mut self, which: u64) {
         match which {
             0..6 => self.cut_and_ask(11 + which as u8),
-            6 => self.hold_with(1, TINY),
+            6 => self.hold_with(1, SMALLEST),
             7 => self.hold_with(1, f32::MAX),
             8 => self.hold_with(1, 0.0),
             9 => self.bad_dt_and_tilt(),
@@ -49,9 +48,9 @@ impl Flight {
             27 => self.prime(),
             28 => {
                 self.hold_with(1, 0.25);
-                self.hold_with(1, TINY);
+                self.hold_with(1, SMALLEST);
             }
-            _ => self.endless_clock(),
+            _ => self.infinite_clock(),
         }
     }
 
@@ -74,15 +73,13 @@ impl Flight {
 
     /// A step with this request, high enough for everything.
     fn ask(&mut self, plane_requested: bool) {
-        let mut step = self.plain();
-        step.plane_requested = plane_requested;
+        let step = self.request(plane_requested);
         self.step(step);
     }
 
     /// A Plane request at this altitude.
     fn ask_at(&mut self, z_m: f32) {
-        let mut step = self.plain();
-        step.plane_requested = true;
+        let mut step = self.request(true);
         step.numbers[1] = z_m;
         self.step(step);
     }
@@ -105,35 +102,22 @@ impl Flight {
     /// Refused before the roll is looked at.
     fn bad_tilt_and_bank(&mut self) {
         let mut step = self.hold();
-        step.numbers[12] = -TINY;
+        step.numbers[12] = -SMALLEST;
         step.numbers[13] = 2.0 * self.track.roll_limit_rad();
         self.step(step);
     }
 
     /// The settings with some of the fields changed.
     pub fn change(&mut self, changes: &[(usize, f32)]) {
-        let mut s = *self.track.settings();
-        for (field, x) in changes {
-            s[field - 1] = *x;
-        }
+        let s = changed(self.track.settings(), changes);
         self.call(Call::Settings(s));
-    }
-
-    /// The fields of both timeouts.
-    pub fn timeout_fields(&self) -> [usize; 2] {
-        if self.track.is_tailsitter() { [7, 7] } else { [3, 8] }
-    }
-
-    /// The fields of the two minimums.
-    pub fn height_fields(&self) -> [usize; 2] {
-        if self.track.is_tailsitter() { [8, 9] } else { [4, 5] }
     }
 
     fn settings_below_the_clock(&mut self) {
         let step = self.hold();
         self.step(step);
         let less = (self.track.clock_s * 0.5).max(0.001);
-        let [there, back] = self.timeout_fields();
+        let [there, back] = timeout_fields(self.track.airframe);
         self.change(&[(there, less), (back, less)]);
         let step = self.hold();
         self.step(step);
@@ -159,8 +143,8 @@ impl Flight {
     }
 
     /// Timeouts at the largest number, and two steps of the largest dt.
-    fn endless_clock(&mut self) {
-        let [there, back] = self.timeout_fields();
+    fn infinite_clock(&mut self) {
+        let [there, back] = timeout_fields(self.track.airframe);
         self.change(&[(there, f32::MAX), (back, f32::MAX)]);
         self.hold_with(1, f32::MAX);
         self.hold_with(1, f32::MAX);
@@ -168,8 +152,8 @@ impl Flight {
     }
 
     /// Plane flight below the floor: ToCopter, abandoned with 16.
-    fn fall(&mut self) -> bool {
-        let floor = self.height_fields()[1];
+    fn below_floor(&mut self) -> bool {
+        let floor = height_fields(self.track.airframe)[1];
         self.change(&[(floor, 10.0)]);
         if !self.reach(FlightMode::Plane) {
             return false;
@@ -181,8 +165,8 @@ impl Flight {
     fn sequence(&mut self, which: u64) {
         match which {
             0..10 => {
-                if self.fall() {
-                    self.after_fall(which);
+                if self.below_floor() {
+                    self.after_floor(which);
                 }
             }
             10 => self.return_past_timeout(),
@@ -219,7 +203,7 @@ impl Flight {
     /// Airspeeds at the minimum and one float below it.
     fn airspeeds_forward(&mut self) {
         let (tailsitter, least) = (self.track.is_tailsitter(), 6.5f32);
-        self.change(&[if tailsitter { (4, least) } else { (1, least) }]);
+        self.change(&[(airspeed_field(self.track.airframe), least)]);
         if !self.reach(FlightMode::ToPlane) {
             return;
         }
@@ -232,7 +216,7 @@ impl Flight {
         }
     }
 
-    fn after_fall(&mut self, which: u64) {
+    fn after_floor(&mut self, which: u64) {
         let past = 2.0 * self.track.roll_limit_rad();
         let step = match which {
             0 | 1 => self.held(13, past, which == 0),
@@ -243,11 +227,10 @@ impl Flight {
                 let late = self.track.back_timeout_s() * 1.5;
                 self.held(0, late, which == 5)
             }
-            7 | 8 => {
-                let mut step = self.back_done_step();
-                step.plane_requested = which == 7;
-                step
-            }
+            7 | 8 => Step {
+                plane_requested: which == 7,
+                ..self.back_done_step()
+            },
             _ => {
                 let step = self.held(0, 0.01, false);
                 self.step(step);
@@ -278,7 +261,7 @@ impl Flight {
 
     /// Requests at the larger minimum and one float below it.
     fn heights(&mut self, least: f32, floor: f32) {
-        let [a, b] = self.height_fields();
+        let [a, b] = height_fields(self.track.airframe);
         self.change(&[(a, least), (b, floor)]);
         let needed = least.max(floor);
         for height in [needed.next_down(), 5.0, needed] {
@@ -287,9 +270,9 @@ impl Flight {
         }
     }
 
-    /// Plane flight at the floor, at heights that are not numbers, and below the floor by one float or endlessly.
+    /// Plane flight at the floor, at heights that are not numbers, and below the floor by one float or infinitely.
     fn floors(&mut self) {
-        let floor = self.height_fields()[1];
+        let floor = height_fields(self.track.airframe)[1];
         self.change(&[(floor, 6.0)]);
         self.call(Call::Prime(0.0));
         for last in [6.0f32.next_down(), f32::NEG_INFINITY] {
@@ -313,10 +296,7 @@ impl Flight {
     fn primes_in_handoff(&mut self) {
         for mode in [FlightMode::Plane, FlightMode::Copter] {
             self.change(&[(14, 40.0)]);
-            if self.track.mode == mode {
-                self.advance();
-            }
-            self.reach(mode);
+            self.enter_anew(mode);
             self.prime();
         }
     }
@@ -324,10 +304,7 @@ impl Flight {
     fn settings_in_handoff(&mut self) {
         for mode in [FlightMode::Plane, FlightMode::Copter] {
             self.change(&[(14, 30.0)]);
-            if self.track.mode == mode {
-                self.advance();
-            }
-            self.reach(mode);
+            self.enter_anew(mode);
             self.change(&[(14, 0.5)]);
             self.hold_with(15, 0.75);
             self.cut();
@@ -361,7 +338,7 @@ impl Flight {
         }
     }
 
-    /// Nose-up one float short of a done cosine, on the side of `sign`; endlessly short; not a number; and at the cosine.
+    /// Nose-up one float short of a done cosine, on the side of `sign`; infinitely short; not a number; and at the cosine.
     fn noses(&mut self, mode: FlightMode, field: usize, sign: f32) {
         if !self.reach(mode) {
             return;
@@ -393,7 +370,7 @@ impl Flight {
         }
     }
 
-    /// The ramp begun by an endless airspeed, settings that make it shorter than its time so far, and a prime.
+    /// The ramp begun by an infinite airspeed, settings that make it shorter than its time so far, and a prime.
     fn ramp_cut_down(&mut self) {
         self.reach(FlightMode::ToPlane);
         let mut step = self.ramp_step();

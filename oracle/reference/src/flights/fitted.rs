@@ -2,8 +2,9 @@
 
 use super::flight::Flight;
 use crate::joined::Call;
-use crate::machine::Step;
-use crate::track::{forward_speed, nose_up, transitioning};
+use crate::machine::{Step, transitioning};
+use crate::settings::{height_fields, timeout_fields};
+use crate::track::{forward_speed, nose_up};
 use stable_flight::FlightMode;
 
 /// A number, or the float next to it.
@@ -44,11 +45,10 @@ impl Flight {
             let z_m = self.random.between(0.1, 3.0);
             self.call(Call::Prime(z_m));
         }
-        let mut step = self.plain();
-        step.plane_requested = true;
+        let mut step = self.request(true);
         step.numbers[1] = self.random.between(0.0, 700.0);
         let height = step.numbers[1] - self.track.home_z_m;
-        let [least, floor] = self.height_fields();
+        let [least, floor] = height_fields(self.track.airframe);
         if height > 0.0 && height.is_finite() {
             let bound = moved(height, off);
             let lower = self.random.pick(&[0.0, height * 0.5, bound]);
@@ -61,7 +61,7 @@ impl Flight {
     fn fit_timeout(&mut self) {
         let step = self.hold();
         let clock = self.track.clock_s + step.dt();
-        let [there, back] = self.timeout_fields();
+        let [there, back] = timeout_fields(self.track.airframe);
         if clock.is_finite() {
             let bound = self.random.near(clock);
             self.change(&[(there, bound), (back, bound)]);

@@ -1,16 +1,14 @@
 //! A flight in the making: its records so far, and the machine that they have led to.
 
 use super::usual;
-use crate::card::RECORD_BYTES;
+use crate::card::{RECORD_BYTES, RecordBytes, header_kind};
 use crate::joined::{Call, Joined};
-use crate::machine::{Airframe, Step};
+use crate::machine::{Airframe, Step, transitioning};
 use crate::random::Random;
-use crate::settings::Settings;
+use crate::settings::{Settings, fields};
 use crate::track::Track;
 use stable_flight::FlightMode;
 use std::f32::consts::{FRAC_PI_2, PI};
-
-pub type RecordBytes = [u8; RECORD_BYTES];
 
 pub struct Flight {
     pub random: Random,
@@ -34,10 +32,7 @@ pub fn record(random: &mut Random, kind: u8, option: u8, first: usize, numbers: 
 }
 
 pub fn header(random: &mut Random, airframe: Airframe, settings: &Settings) -> RecordBytes {
-    match airframe {
-        Airframe::Tailsitter => record(random, 5, 0, 1, settings),
-        Airframe::Quadplane => record(random, 6, 0, 1, &settings[..15]),
-    }
+    record(random, header_kind(airframe), 0, 1, &settings[..fields(airframe)])
 }
 
 /// A number and its neighbours.
@@ -63,16 +58,12 @@ impl Flight {
 
     /// The next call.
     pub fn call(&mut self, call: Call) {
-        let quadplane = self.track.airframe == Airframe::Quadplane;
+        let random = &mut self.random;
         let bytes = match &call {
-            Call::Prime(z_m) => record(&mut self.random, 1, 0, 2, &[*z_m]),
-            Call::Step(step) => {
-                let option = u8::from(step.plane_requested) + 2 * u8::from(step.airspeed_present);
-                record(&mut self.random, 2, option, 1, &step.numbers)
-            }
-            Call::Cut(reason) => record(&mut self.random, 3, *reason, 1, &[]),
-            Call::Settings(s) if quadplane => record(&mut self.random, 4, 0, 1, &s[..15]),
-            Call::Settings(s) => record(&mut self.random, 4, 0, 1, s),
+            Call::Prime(z_m) => record(random, 1, 0, 2, &[*z_m]),
+            Call::Step(step) => record(random, 2, step.option(), 1, &step.numbers),
+            Call::Cut(reason) => record(random, 3, *reason, 1, &[]),
+            Call::Settings(s) => record(random, 4, 0, 1, &s[..fields(self.track.airframe)]),
         };
         self.records.push(bytes);
         // A refusal leaves the machine as it was.
@@ -125,8 +116,7 @@ impl Flight {
 
     fn usual_demand(&mut self) -> f32 {
         match self.random.below(8) {
-            0 => self.random.pick(&[f32::NAN, -1.0, 2.0, -0.0, 1.0, 0.0]),
-            1 => self.random.pick(&[f32::NAN, -1.0, 2.0, -0.0, 1.0, 0.0]),
+            0 | 1 => self.random.pick(&[f32::NAN, -1.0, 2.0, -0.0, 1.0, 0.0]),
             _ => self.random.between(0.0, 1.0),
         }
     }
@@ -151,6 +141,14 @@ impl Flight {
             plane_requested: random.once_in(2),
             airspeed_present: random.once_in(2),
             numbers,
+        }
+    }
+
+    /// Such a step with this request.
+    pub fn request(&mut self, plane_requested: bool) -> Step {
+        Step {
+            plane_requested,
+            ..self.plain()
         }
     }
 
@@ -202,7 +200,7 @@ impl Flight {
         if matches!(mode, FlightMode::Copter | FlightMode::ToCopter) {
             step.plane_requested = self.track.abandonment != 0 && self.random.once_in(2);
         }
-        if matches!(mode, FlightMode::ToPlane | FlightMode::ToCopter) {
+        if transitioning(mode) {
             step.numbers[0] = self.dt_short_of(self.bound_s());
         }
         match mode {
@@ -259,8 +257,7 @@ impl Flight {
                 self.step(step);
             }
             FlightMode::Plane => {
-                let mut step = self.plain();
-                step.plane_requested = false;
+                let mut step = self.request(false);
                 step.numbers[12] = self.usual_tilt();
                 self.step(step);
             }
@@ -283,8 +280,7 @@ impl Flight {
         if !self.track.home_z_m.is_finite() || self.track.home_z_m.abs() > 1e6 {
             return self.prime();
         }
-        let mut step = self.plain();
-        step.plane_requested = self.track.abandonment == 0;
+        let mut step = self.request(self.track.abandonment == 0);
         step.numbers[12] = self.usual_tilt();
         self.step(step);
     }

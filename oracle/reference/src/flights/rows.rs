@@ -4,6 +4,8 @@ use super::flight::Flight;
 use super::{classes, usual};
 use crate::joined::Call;
 use crate::machine::Step;
+use crate::random::SMALLEST;
+use crate::settings::{fields, height_fields};
 use stable_flight::FlightMode;
 use std::f32::consts::PI;
 
@@ -53,9 +55,8 @@ impl Flight {
     }
 
     pub fn bad_settings(&mut self) {
-        let fields = if self.track.is_tailsitter() { 17 } else { 15 };
         let mut s = *self.track.settings();
-        s[self.random.below(fields)] = self.random.pick(&[f32::NAN, -1.0, f32::INFINITY]);
+        s[self.random.below(fields(self.track.airframe))] = self.random.pick(&[f32::NAN, -1.0, f32::INFINITY]);
         self.call(Call::Settings(s));
     }
 
@@ -71,9 +72,7 @@ impl Flight {
     /// An entry tilt out of range: refused by the tailsitter if nose-up is finite.
     pub fn bad_tilt(&mut self) {
         let mut step = self.plain();
-        step.numbers[12] = self
-            .random
-            .pick(&[f32::NAN, PI.next_up(), -f32::from_bits(1), -1.0, 4.0, f32::INFINITY]);
+        step.numbers[12] = self.random.pick(&[f32::NAN, PI.next_up(), -SMALLEST, -1.0, 4.0, f32::INFINITY]);
         if self.random.once_in(3) {
             step.numbers[7 + self.random.below(4)] = f32::NAN;
         }
@@ -103,12 +102,6 @@ impl Flight {
         };
         step.numbers[13] = self.bank_edge();
         self.step(step);
-    }
-
-    fn request(&mut self, plane_requested: bool) -> Step {
-        let mut step = self.plain();
-        step.plane_requested = plane_requested;
-        step
     }
 
     /// A Copter request on the way to plane flight, also in a step past the timeout.
@@ -145,18 +138,12 @@ impl Flight {
             2 => self.nose_down_near_airspeed(),
             3 | 4 => self.nose_near_cosine(),
             5 => self.timed_out(),
-            6 => {
-                let late = self.timed_out();
-                let mut step = self.nose_down_step();
-                step.numbers[0] = late.numbers[0];
-                step
-            }
+            6 => self.late(Flight::nose_down_step),
             7 => return self.bank_step(),
-            8 => {
-                let mut step = self.nose_down_step();
-                step.plane_requested = false;
-                step
-            }
+            8 => Step {
+                plane_requested: false,
+                ..self.nose_down_step()
+            },
             9 => return self.advance(),
             _ => self.hold(),
         };
@@ -190,6 +177,14 @@ impl Flight {
         step
     }
 
+    /// Another step, with the dt of such a one.
+    fn late(&mut self, other: fn(&mut Flight) -> Step) -> Step {
+        let late = self.timed_out();
+        let mut step = other(self);
+        step.numbers[0] = late.dt();
+        step
+    }
+
     fn quadplane_to_plane_row(&mut self) {
         let least = self.track.min_airspeed_mps();
         let waits = self.track.ramp_start_s.is_none();
@@ -209,11 +204,10 @@ impl Flight {
                 step
             }
             6 => return self.bank_step(),
-            7 => {
-                let mut step = self.ramp_step();
-                step.plane_requested = false;
-                step
-            }
+            7 => Step {
+                plane_requested: false,
+                ..self.ramp_step()
+            },
             _ => self.hold(),
         };
         self.step(step);
@@ -246,15 +240,15 @@ impl Flight {
 
     /// Settings with a floor for plane flight.
     fn raise_floor(&mut self) {
-        let mut s = *self.track.settings();
-        s[if self.track.is_tailsitter() { 8 } else { 4 }] = self.random.between(1.0, 20.0);
-        self.call(Call::Settings(s));
+        let floor = height_fields(self.track.airframe)[1];
+        let height = self.random.between(1.0, 20.0);
+        self.change(&[(floor, height)]);
     }
 
     /// ToCopter entered with an entry tilt at an edge, or with an attitude that is not known.
     fn enter_back_at_edge(&mut self) {
         let mut step = self.request(false);
-        step.numbers[12] = self.random.pick(&[0.0, -0.0, PI, f32::from_bits(1)]);
+        step.numbers[12] = self.random.pick(&[0.0, -0.0, PI, SMALLEST]);
         if self.random.once_in(3) {
             step.numbers[7 + self.random.below(4)] = f32::NAN;
             step.numbers[12] = self.random.edge();
@@ -266,18 +260,12 @@ impl Flight {
         let step = match self.random.below(13) {
             0 => self.request(true),
             1 => self.back_done_step(),
-            2 => {
-                let mut step = self.back_done_step();
-                step.plane_requested = true;
-                step
-            }
+            2 => Step {
+                plane_requested: true,
+                ..self.back_done_step()
+            },
             3 => self.timed_out(),
-            4 => {
-                let late = self.timed_out();
-                let mut step = self.back_done_step();
-                step.numbers[0] = late.numbers[0];
-                step
-            }
+            4 => self.late(Flight::back_done_step),
             5 => return self.bank_step(),
             6 | 7 => self.back_edge(),
             8 => self.sink_step(),

@@ -3,9 +3,9 @@
 
 use super::flight::Flight;
 use crate::joined::Call;
-use crate::machine::{Airframe, bad_field};
+use crate::machine::Airframe;
 use crate::random::Random;
-use crate::settings::{self, Settings};
+use crate::settings::{Settings, bad_field, defaults};
 use stable_flight::FlightMode;
 use std::f32::consts::FRAC_PI_2;
 
@@ -42,13 +42,6 @@ pub fn headed(heading_rad: f32, pitch_rad: f32) -> [f32; 4] {
     let (c, s) = (cosine(heading_rad / 2.0), sine(heading_rad / 2.0));
     let (pc, ps) = (cosine(pitch_rad / 2.0), sine(pitch_rad / 2.0));
     [c * pc, -s * ps, c * ps, s * pc]
-}
-
-pub fn defaults(airframe: Airframe) -> Settings {
-    match airframe {
-        Airframe::Tailsitter => with_cosines(settings::tailsitter_defaults()),
-        Airframe::Quadplane => settings::quadplane_defaults(),
-    }
 }
 
 /// The settings with the cosines of their done angles.

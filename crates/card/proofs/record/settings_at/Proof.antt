@@ -1,5 +1,5 @@
 -- `card::record::settings_at` meets its contract. Assumes nothing.
-use Rattle.card.specs.Format.{settingsAt}
+use Rattle.joined.specs.Calls.{settingsBy}
 use borrow.Author.Needs.{needs}
 use Rattle.card.proofs.record.settings_at.Statement.{statement}
 use Rattle.card.proofs.record.settings_at.Tie as tie
@@ -8,7 +8,7 @@ number-at-requires-17 : tie.Need-number-at-requires-17
 number-at-requires-17 c κs = search (needs, c .before .before .before .before .before .before .before .before .before .before .before .before .before .before .before .before .before .pre)
 
 returns : tie.Need-returns
-unfolding settingsAt
+unfolding settingsBy
 returns c =
     let c₁ = c .before in
     let c₂ = c₁ .before in

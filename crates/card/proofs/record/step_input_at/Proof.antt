@@ -1,11 +1,11 @@
 -- `card::record::step_input_at` meets its contract. Assumes nothing.
-use Rattle.card.specs.Format.{stepInputAt}
+use Rattle.joined.specs.Calls.{stepInputBy}
 use borrow.Author.Needs.{needs}
 use Rattle.card.proofs.record.step_input_at.Statement.{statement}
 use Rattle.card.proofs.record.step_input_at.Tie as tie
 
 returns : tie.Need-returns
-unfolding stepInputAt
+unfolding stepInputBy
 returns c = cc
 
 pub step-input-at-spec : {M : Type 1} → statement M
@@ -13,4 +13,4 @@ step-input-at-spec =
     tie.close
     (tie.spec
     (λ c κs. search needs) (λ c κs. search needs) (λ c κs. search needs) (λ c κs. search needs) (λ c κs. search needs)
-    (λ c κs. search needs) returns)
+    (λ c κs. search needs) (λ c κs. search needs) returns)

@@ -1,11 +1,11 @@
 -- `card::record::vehicle_at` meets its contract. Assumes nothing.
-use Rattle.card.specs.Format.{vehicleAt}
+use Rattle.joined.specs.Calls.{vehicleBy}
 use borrow.Author.Needs.{needs}
 use Rattle.card.proofs.record.vehicle_at.Statement.{statement}
 use Rattle.card.proofs.record.vehicle_at.Tie as tie
 
 returns : tie.Need-returns
-unfolding vehicleAt
+unfolding vehicleBy
 returns c =
     let c₁ = c .before in
     let c₂ = c₁ .before in
@@ -17,7 +17,8 @@ returns c =
     let c₈ = c₇ .before in
     let c₉ = c₈ .before in
     let c₁₀ = c₉ .before in
-    simp (c .number-at10 .ensures, c₁ .number-at9 .ensures, c₂ .number-at8 .ensures, c₃ .number-at7 .ensures, c₄ .number-at6 .ensures, c₅ .number-at5 .ensures, c₆ .number-at4 .ensures, c₇ .number-at3 .ensures, c₈ .number-at2 .ensures, c₉ .number-at .ensures, c₁₀ .airspeed-at .ensures)
+    let c₁₁ = c₁₀ .before in
+    simp (c .number-at11 .ensures, c₁ .number-at10 .ensures, c₂ .number-at9 .ensures, c₃ .number-at8 .ensures, c₄ .number-at7 .ensures, c₅ .number-at6 .ensures, c₆ .number-at5 .ensures, c₇ .number-at4 .ensures, c₈ .number-at3 .ensures, c₉ .number-at2 .ensures, c₁₀ .airspeed-by .ensures, c₁₁ .number-at .ensures, c₁₁ .before .option-at .ensures)
 
 pub vehicle-at-spec : {M : Type 1} → statement M
 vehicle-at-spec =
@@ -25,4 +26,4 @@ vehicle-at-spec =
     (tie.spec
     (λ c κs. search needs) (λ c κs. search needs) (λ c κs. search needs) (λ c κs. search needs) (λ c κs. search needs)
     (λ c κs. search needs) (λ c κs. search needs) (λ c κs. search needs) (λ c κs. search needs) (λ c κs. search needs)
-    (λ c κs. search needs) returns)
+    (λ c κs. search needs) (λ c κs. search needs) (λ c κs. search needs) returns)

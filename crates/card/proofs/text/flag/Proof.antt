@@ -6,11 +6,11 @@ use Rattle.card.proofs.text.flag.Tie as tie
 
 returns : tie.Need-returns
 unfolding decimalOf
-returns c = simp (c .before .before .before .before .if1 .taken) (c .before .before .letter .ensures)
+returns c = simp (c .before .before .before .before .if1 .taken) (c .before .before .byte .ensures)
 
 returns-2 : tie.Need-returns-2
 unfolding decimalOf
-returns-2 c = simp (c .before .before .before .before .if1 .left) (c .before .before .letter2 .ensures)
+returns-2 c = simp (c .before .before .before .before .if1 .left) (c .before .before .byte2 .ensures)
 
 pub flag-spec : {M : Type 1} → statement M
 flag-spec =

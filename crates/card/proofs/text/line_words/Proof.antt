@@ -11,7 +11,7 @@ use Rattle.card.proofs.text.line_words.Tie as tie
 returns : tie.Need-returns
 returns c =
     let line = c .before .before .before .before .before .before .before .before .before .before .before .before .before .before .before .before .before .before .args .line in (
-      more (letterOf (line .mode) ∷ []) (simp (c .before .before .before .before .before .before .before .before .before .before .before .before .before .before .before .mode-letter .ensures) at (c .before .before .before .before .before .before .before .before .before .before .before .before .before .before .letter .ensures .0))
+      more (letterOf (line .mode) ∷ []) (simp (c .before .before .before .before .before .before .before .before .before .before .before .before .before .before .before .letter .ensures) at (c .before .before .before .before .before .before .before .before .before .before .before .before .before .before .byte .ensures .0))
           (more (outputWord (outputBits (line .output))) (c .before .before .before .before .before .before .before .before .before .before .share-or-tilt .ensures .0)
           (more (decimalOf (flagOf (line .handoff))) (c .before .before .before .before .before .before .flag .ensures .0) (c .before .before .line-end .ensures .0))),
       omega arith,

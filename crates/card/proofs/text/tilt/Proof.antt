@@ -8,7 +8,7 @@ returns : tie.Need-returns
 returns c = simp (c .before .before .before .before .before .target .given .1) (c .before .before .bits .ensures)
 
 returns-2 : tie.Need-returns-2
-returns-2 c = simp (c .before .before .before .before .enum-told .given .1) (c .before .before .letter .ensures .0, omega arith)
+returns-2 c = simp (c .before .before .before .before .enum-told .given .1) (c .before .before .byte .ensures .0, omega arith)
 
 pub tilt-spec : {M : Type 1} → statement M
 tilt-spec =

@@ -1,5 +1,5 @@
-//! The joined machine over stable-flight's own machines as a Rust program would have it: changed in place, with plain tests for the
-//! refusals. The reference, which asks the Rust for each of them, is the judge; this is the one to be as fast as.
+//! The joined machine over stable-flight's own machines, written for speed: changed in place, with plain tests for the refusals. The
+//! entry tilt is supplied where the Rust may ask for it.
 
 use libm::{For, with_tilt};
 use reference::joined::Line;
@@ -70,8 +70,7 @@ impl Joined {
             return Err(1);
         }
         let before = self.mode();
-        let cut = transitioning(before) && input.bank_rad.abs() > self.settings[14];
-        let moved = self.moved(input, cut)?;
+        let moved = self.moved(input, before)?;
         let entered = |mode| before != mode && moved.mode == mode;
         if moved.handoff || entered(FlightMode::Plane) {
             self.handoff = ThrustHandoff::new(self.settings[13]);
@@ -89,10 +88,12 @@ impl Joined {
     }
 
     /// The machine's part of a step, with refusal 2.
-    fn moved(&mut self, input: &StepInput, cut: bool) -> Result<Moved, u32> {
+    fn moved(&mut self, input: &StepInput, before: FlightMode) -> Result<Moved, u32> {
+        let (dt, requested, state) = (input.dt, input.requested, &input.state);
+        let cut = transitioning(before) && input.bank_rad.abs() > self.settings[14];
         let (mode, output, handoff, report) = match &mut self.machine {
             Machine::Tailsitter(machine) => {
-                let nose_up = open::nose_up_cosine(&input.state);
+                let nose_up = open::nose_up_cosine(state);
                 if nose_up.is_finite() && !(0.0..=PI).contains(&input.entry_tilt_rad) {
                     return Err(2);
                 }
@@ -102,14 +103,15 @@ impl Joined {
                 };
                 let step = match cut {
                     true => machine.cut_short(ModeRefusal::RollError),
-                    false => with_tilt(tilt, || machine.update(input.dt, input.requested, &input.state)),
+                    false if may_enter(before, requested) => with_tilt(tilt, || machine.update(dt, requested, state)),
+                    false => machine.update(dt, requested, state),
                 };
                 (step.mode, step.tilt_target_rad, step.handoff, machine.report().refusal)
             }
             Machine::Quadplane(machine) => {
                 let step = match cut {
                     true => machine.cut_short(ModeRefusal::RollError),
-                    false => machine.update(input.dt, input.requested, &input.state),
+                    false => machine.update(dt, requested, state),
                 };
                 (step.mode, Some(step.lift_share), step.handoff, machine.report().refusal)
             }
@@ -136,5 +138,14 @@ impl Joined {
             }
             _ => self.handoff.apply(input.dt, input.demand),
         }
+    }
+}
+
+/// Whether a step may enter a transition, so that the Rust may ask for the entry tilt.
+fn may_enter(before: FlightMode, requested: FlightRegime) -> bool {
+    match before {
+        FlightMode::Copter => requested == FlightRegime::Plane,
+        FlightMode::Plane => true,
+        _ => false,
     }
 }

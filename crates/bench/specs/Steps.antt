@@ -1,4 +1,4 @@
--- Document 01, section 7: the steps of a list, and the sum of their answers. Definitions only. Assumes nothing.
+-- The steps of a list, in the numbers of document 01, section 7, and the sum of their answers, which is for bench/ and no part of document 01. Definitions only. Assumes nothing.
 -- The numbers of step i stand from index 15 * i on, its option at index i. Past the end there are NaNs and zeros; no step reaches there.
 use Prim.Native.Nat.{ℕ, zero, suc, _+_, _*_, _-_, _%_, _^_}
 use mathlib.Core.Bool.{_&&_}

@@ -71,13 +71,13 @@ refusedBy j why = record { joined = j; answer = answer.Refused why }
 abbrev pub freshHandoff : Machine → Float → ThrustHandoff
 freshHandoff m kept = startOf (newHandoff (handoffTimeOf m)) kept
 
--- that one, or the old one
+-- a fresh handoff if one starts, else the old one
 abbrev pub handoffIf : Bool → Joined → Machine → ThrustHandoff
 handoffIf starts j m = if starts then freshHandoff m (j .thrust) else j .handoff
 
 -- ---- a step
 
--- a step entered a mode
+-- whether a step entered the mode m
 abbrev pub entered : FlightMode → FlightMode → FlightMode → Bool
 entered m before after = not (modeIs m before) && modeIs m after
 

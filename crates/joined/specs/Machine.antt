@@ -1,6 +1,5 @@
 -- Document 01, section 6: "either machine, the airframe fixed at its making and settings always its own". Definitions only. Assumes nothing.
 use mathlib.Core.Bool.{Bool, true, false, _&&_}
-use Prim.Native.Nat.{ℕ}
 use lib.Dec.{eqb}
 use lib.Ieee.{Float, lt, neg}
 use Rattle.numbers.specs.Numbers.{if_then_else_, zero32}
@@ -27,6 +26,7 @@ use Rattle.joined.specs.declared.machine.Machine.the-variants as machine
 use Rattle.joined.specs.declared.machine.MachineUpdate.{MachineUpdate}
 use Rattle.joined.specs.declared.machine.NewMachine.{NewMachine}
 use Rattle.joined.specs.declared.machine.NewMachine.the-variants as made
+use Rattle.joined.specs.Shown.{letterOf}
 
 -- ---- settings: the numbers of a record are an airframe's fields in their order
 
@@ -82,24 +82,12 @@ stateIn (machine.Quadplane m) = m .state
 abbrev pub modeOf : Machine → FlightMode
 modeOf m = stateIn m .mode
 
--- ---- tests of a mode, by its place among the four
-abbrev pub placeOf : FlightMode → ℕ
-placeOf mode.Copter = 0
-placeOf mode.Plane = 1
-placeOf mode.ToPlane = 2
-placeOf mode.ToCopter = 3
-
+-- ---- tests of a mode: two modes are the same if their letters are
 abbrev pub modeIs : FlightMode → FlightMode → Bool
-modeIs m n = eqb (placeOf m) (placeOf n)
+modeIs m n = eqb (letterOf m) (letterOf n)
 
 abbrev pub isCopter : FlightMode → Bool
 isCopter = modeIs mode.Copter
-
-abbrev pub isPlane : FlightMode → Bool
-isPlane = modeIs mode.Plane
-
-abbrev pub isToPlane : FlightMode → Bool
-isToPlane = modeIs mode.ToPlane
 
 abbrev pub isToCopter : FlightMode → Bool
 isToCopter = modeIs mode.ToCopter

@@ -26,7 +26,7 @@ pub enum Call {
     Settings(Settings),
 }
 
-// What a step with this option requests: Plane if it is odd.
+// What a step with this option requests: Plane if it is odd. Options above 3 are the card's to refuse.
 pub fn requested_by(option: u8) -> FlightRegime
     ensures { λ r. ⌜ r ≡ requestedOf option ⌝ }
 {

@@ -1,4 +1,5 @@
 // The handoff, the pitch and the thrust of a step (document 01, sections 5 and 6).
+use crate::answer::letter;
 use crate::call::StepInput;
 use crate::machine::Machine;
 use machines::FlightMode;
@@ -11,7 +12,7 @@ use machines::sink::guard_sink;
 use numbers::logic::both;
 use numbers::logic::either;
 ghost use mathlib.Core.Path.{_≡_};
-ghost use Rattle.joined.specs.Machine.{placeOf, modeIs};
+ghost use Rattle.joined.specs.Machine.{modeIs};
 ghost use Rattle.joined.specs.Joined.{freshHandoff, entered, startsHandoff, entryPitch, decelerated, steppedPitch, blended, backThrust, tailsitterThrust, thrustOf};
 
 // A step's thrust, and the handoff after it.
@@ -20,23 +21,11 @@ pub(crate) struct Thrusted {
     pub thrust: f32,
 }
 
-// A mode's place among the four.
-fn place(mode: FlightMode) -> u8
-    ensures { λ r. ⌜ r ≡ placeOf mode ⌝ }
-{
-    match mode {
-        FlightMode::Copter => 0,
-        FlightMode::Plane => 1,
-        FlightMode::ToPlane => 2,
-        FlightMode::ToCopter => 3,
-    }
-}
-
 // Whether two modes are the same.
 fn is_mode(mode: FlightMode, other: FlightMode) -> bool
     ensures { λ r. ⌜ r ≡ modeIs mode other ⌝ }
 {
-    place(mode) == place(other)
+    letter(mode) == letter(other)
 }
 
 // Whether a step entered a mode.

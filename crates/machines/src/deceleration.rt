@@ -45,7 +45,7 @@ impl BackDeceleration {
         BackDeceleration { pitch_rad: 0.0 }
     }
 
-    // The pitch to fly, in 0..0.3: it grows by gain · shortfall · dt, where the shortfall is the target less the deceleration. A deceleration that is not finite leaves it.
+    // The pitch to fly, clamped to 0..0.3, where a NaN passes: it grows by gain · shortfall · dt, where the shortfall is the target less the deceleration. A deceleration that is not finite leaves it.
     pub fn pitch_rad(
         self,
         dt: f32,

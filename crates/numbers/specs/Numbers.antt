@@ -1,4 +1,4 @@
--- Document 01, section 1: binary32 arithmetic, the constants by their bits, clamp, min and max. Definitions only.
+-- Document 01, section 1: binary32 arithmetic, the constants by their bits, clamp, min and max; and section 7: bits and bytes. Definitions only.
 -- The values, the operations and the comparisons are IEEE 754's, as the library `lib.Ieee` has them: one `nan`, two infinities, two zeros.
 -- Assumes nothing.
 use mathlib.Core.Bool.{Bool, true, false}
@@ -33,7 +33,7 @@ floatOf n = ofBits binary32 n
 abbrev pub bitsOf : Float → ℕ
 bitsOf x = toBits binary32 x
 
--- ---- 32 bits of four bytes, the lowest first
+-- ---- "little-endian" (section 7): the number of four bytes, the lowest first
 abbrev pub littleEndian : ℕ → ℕ → ℕ → ℕ → ℕ
 littleEndian b0 b1 b2 b3 = b0 + b1 * 256 + b2 * 65536 + b3 * 16777216
 

@@ -32,7 +32,7 @@ use Rattle.joined.specs.declared.machine.Airframe.the-variants as airfra
 use Rattle.joined.specs.declared.machine.Machine.{Machine}
 use Rattle.joined.specs.declared.machine.Machine.the-variants as machine
 use Rattle.joined.specs.declared.joined.Joined.{Joined}
-use Rattle.joined.specs.Machine.{airframeOf, isCopter, isPlane, stateIn, modeOf}
+use Rattle.joined.specs.Machine.{airframeOf, isCopter, modeIs, stateIn, modeOf}
 use Rattle.joined.specs.Joined.{callOf}
 use Rattle.joined.specs.List.{after, modeAt, abandonmentAt, clockAt, minHeightOf, planeMinHeightOf, isPrime, isAcceptedStep, leavesCopter, abandons, copterRequestInCopter, endsIn}
 use Rattle.joined.specs.List.{EachCall, NoCall, SomeCall, readsMinimum, rampWithin, Ramped, RampedIf, InPlane}
@@ -134,7 +134,7 @@ RampSoFar a mode.ToCopter ramp left since now = RampedBy a left since
 none-next : (left : Joined) (since : List Call) (now : Joined) (c : Call) → after left since ≡ now → modeAt (next now c) ≡ mode.ToPlane → NoCall (endsIn mode.Plane) left since
     → NoCall (endsIn mode.Plane) left (c ∷ since)
 none-next left since now c here e n =
-    each-next (λ k d. T (not (endsIn mode.Plane k d))) left since now c here (subst (λ (m : FlightMode). T (not (isPlane m))) (sym e) tt) n
+    each-next (λ k d. T (not (endsIn mode.Plane k d))) left since now c here (subst (λ (m : FlightMode). T (not (modeIs mode.Plane m))) (sym e) tt) n
 
 began-next : (start : Float) (left : Joined) (since : List Call) (now : Joined) (c : Call) → after left since ≡ now → modeAt (next now c) ≡ mode.ToPlane → Began start left since now
     → Began start left (c ∷ since) (next now c)
@@ -219,7 +219,7 @@ complete-ramp airframe.Quadplane (Begun start) left since now i e o s =
       list = ap (λ (l : List Call). call.Step i ∷ l) (s .list);
       ramp =
           record {
-            ends = subst (λ (k : Joined). T (isPlane (modeAt k))) (sym to-f) (subst (λ (m : FlightMode). T (isPlane m)) (sym e) tt);
+            ends = subst (λ (k : Joined). T (modeIs mode.Plane (modeAt k))) (sym to-f) (subst (λ (m : FlightMode). T (modeIs mode.Plane m)) (sym e) tt);
             first = subst (λ (l : List Call). NoCall (endsIn mode.Plane) left l) (s .list) (s .first);
             accepted = s .accepted;
             read = s .read;

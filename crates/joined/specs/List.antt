@@ -1,4 +1,7 @@
 -- Demand 3: what is claimed of every list of calls. Definitions only. Assumes nothing.
+-- Words in quotes are demand 3's (docs/CLAIMS.md has them all), or document 01's where a section is named.
+-- Notation: `×` is and, `⊎` is or, `→` between statements is if .. then, `Unit` is always true and `⊥` never, `≡` is equality; «x» is the name x; what follows `module _` are arguments
+-- of all that stands in it.
 -- Read `Claim` (near the end) first, then `ByMode`, `InPlane` and `InTransition`; what stands before them is their vocabulary. The theorem is `list-theorem` (proofs/Laws/Theorem.antt).
 -- A list stands with its LAST call first, so time runs from right to left: in c ∷ cs the calls cs were made before c, and in later ++ earlier those of `earlier`.
 -- Borrowed: `holds` (there is a number), `readingOf` and `atLeast` (an airspeed reading against a minimum; its last argument is what no reading counts as) of section 3, `tiltOf` and

@@ -149,7 +149,7 @@ fn read(path: &Path) -> String {
     println!("cargo::rerun-if-changed={}", path.display());
     fs::read_to_string(path).unwrap_or_else(|error| {
         println!("cargo::error={}: {error}", path.display());
-        println!("cargo::error=STABLE_FLIGHT_SRC has to name the folder of the Rust's sources, with crates/stable-flight/src in it");
+        println!("cargo::error=STABLE_FLIGHT_SRC has to name, by an absolute path, the folder of the Rust's sources, with crates/stable-flight/src in it");
         std::process::exit(1)
     })
 }

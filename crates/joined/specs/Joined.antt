@@ -67,6 +67,11 @@ answered j s = record { joined = j; answer = lineOf j s }
 abbrev pub refusedBy : Joined → InputRefusal → JoinedUpdate
 refusedBy j why = record { joined = j; answer = answer.Refused why }
 
+-- by the machine's answer: refused, or `next`, the state after its step, with the line that shows it
+abbrev pub answeredIf : TransitionAnswer → Joined → (TransitionStep → Joined) → JoinedUpdate
+answeredIf (moved.Refused why) j next = refusedBy j why
+answeredIf (moved.Step s) j next = answered (next s) s
+
 -- ---- "a fresh handoff of handoff_s from the kept thrust"
 abbrev pub freshHandoff : Machine → Float → ThrustHandoff
 freshHandoff m kept = startOf (newHandoff (handoffTimeOf m)) kept
@@ -143,12 +148,8 @@ stepped j m s i = record {
   thrust = thrustedOf j m s i .thrust;
 }
 
-abbrev pub steppedIf : TransitionAnswer → Joined → Machine → StepInput → JoinedUpdate
-steppedIf (moved.Refused why) j m i = refusedBy j why
-steppedIf (moved.Step s) j m i = answered (stepped j m s i) s
-
 abbrev pub steppedBy : Joined → MachineUpdate → StepInput → JoinedUpdate
-steppedBy j u i = steppedIf (u .answer) j (u .machine) i
+steppedBy j u i = answeredIf (u .answer) j (λ s. stepped j (u .machine) s i)
 
 -- "after refusals: if the mode is ToPlane or ToCopter and |bank| > roll_limit_rad .., cut with 15, else update"
 abbrev pub cutOr : Machine → Float → MachineUpdate → MachineUpdate
@@ -168,33 +169,31 @@ stepOf j i = stepBy (updateMachineOf (j .machine) i) j i
 -- ---- the other calls
 
 -- new handoff, pitch 0 and thrust 0. No machine refuses a prime or a cut: the arms for that are not met (proofs/Laws/Answers.antt)
-abbrev pub primedIf : TransitionAnswer → Joined → Machine → JoinedUpdate
-primedIf (moved.Refused why) j m = refusedBy j why
-primedIf (moved.Step s) j m = answered (initial m) s
+abbrev pub primedBy : Joined → MachineUpdate → JoinedUpdate
+primedBy j u = answeredIf (u .answer) j (λ s. initial (u .machine))
 
 abbrev pub primeOf : Joined → Float → JoinedUpdate
-primeOf j z = primedIf (primeMachineOf (j .machine) z .answer) j (primeMachineOf (j .machine) z .machine)
+primeOf j z = primedBy j (primeMachineOf (j .machine) z)
 
 -- "a cut call starts a handoff on its flag and leaves thrust and pitch"
-abbrev pub cutIf : TransitionAnswer → Joined → Machine → JoinedUpdate
-cutIf (moved.Refused why) j m = refusedBy j why
-cutIf (moved.Step s) j m = answered (record {
-  machine = m;
-  handoff = handoffIf (s .handoff) j m;
-  deceleration = j .deceleration;
-  thrust = j .thrust;
-}) s
+abbrev pub afterCut : Joined → Machine → TransitionStep → Joined
+afterCut j m s = record { machine = m; handoff = handoffIf (s .handoff) j m; deceleration = j .deceleration; thrust = j .thrust }
+
+abbrev pub cutBy : Joined → MachineUpdate → JoinedUpdate
+cutBy j u = answeredIf (u .answer) j (λ s. afterCut j (u .machine) s)
 
 abbrev pub cutOf : Joined → ModeRefusal → JoinedUpdate
-cutOf j why = cutIf (cutMachineOf (j .machine) why .answer) j (cutMachineOf (j .machine) why .machine)
+cutOf j why = cutBy j (cutMachineOf (j .machine) why)
 
 -- "new settings touch nothing else"
-abbrev pub setIf : TransitionAnswer → Joined → Machine → JoinedUpdate
-setIf (moved.Refused why) j m = refusedBy j why
-setIf (moved.Step s) j m = answered (record { machine = m; handoff = j .handoff; deceleration = j .deceleration; thrust = j .thrust }) s
+abbrev pub afterSettings : Joined → Machine → Joined
+afterSettings j m = record { machine = m; handoff = j .handoff; deceleration = j .deceleration; thrust = j .thrust }
+
+abbrev pub setBy : Joined → MachineUpdate → JoinedUpdate
+setBy j u = answeredIf (u .answer) j (λ s. afterSettings j (u .machine))
 
 abbrev pub setOf : Joined → Settings → JoinedUpdate
-setOf j s = setIf (setMachineOf (j .machine) s .answer) j (setMachineOf (j .machine) s .machine)
+setOf j s = setBy j (setMachineOf (j .machine) s)
 
 -- ---- one call
 abbrev pub callOf : Joined → Call → JoinedUpdate

@@ -1,7 +1,8 @@
 -- Demand 3: what is claimed of every list of calls. Definitions only. Assumes nothing.
 -- Words in quotes are demand 3's (docs/CLAIMS.md has them all), or document 01's where a section is named.
 -- Notation: `×` is and, `⊎` is or, `→` between statements is if .. then, `Unit` is always true and `⊥` never, `≡` is equality; «x» is the name x; what follows `module _` are arguments
--- of all that stands in it.
+-- of all that stands in it. `Type 0` is the kind of statements. A record states all its fields together: a field such as `before : List Call` says that there is such a list, one such as
+-- `list : cs ≡ ..` what holds of it. `(x : A) →` is for every x, `λ x. ..` a test or statement about x.
 -- Read `Claim` (near the end) first, then `ByMode`, `InPlane` and `InTransition`; what stands before them is their vocabulary. The theorem is `list-theorem` (proofs/Laws/Theorem.antt).
 -- A list stands with its LAST call first, so time runs from right to left: in c ∷ cs the calls cs were made before c, and in later ++ earlier those of `earlier`.
 -- Borrowed: `holds` (there is a number), `readingOf` and `atLeast` (an airspeed reading against a minimum; its last argument is what no reading counts as) of section 3, `tiltOf` and
@@ -362,7 +363,7 @@ pub record Claim (a : Airframe) (s : Settings) (j : Joined) (cs : List Call) (an
   -- "each answer is the one document 01 defines": as the program has it, and in the paper's letters and numbers
   pub defined : answers ≡ answersOf j cs
   pub shown : shownAll answers ≡ shownAll (answersOf j cs)
-  -- so is the state, and the airframe is "fixed at its making"
+  -- so is the state, and the airframe is "fixed at its making" (section 6)
   pub state : end ≡ after j cs
   pub airframe : airframeOf (end .machine) ≡ a
   -- "after the list: share and thrust in 0..1, tilt in 0..π"; and so in every line that was answered

@@ -82,7 +82,7 @@ stateIn (machine.Quadplane m) = m .state
 abbrev pub modeOf : Machine → FlightMode
 modeOf m = stateIn m .mode
 
--- ---- tests of a mode: two modes are the same if their letters are
+-- ---- tests of a mode: two modes are the same if their letters in section 7 are (`letterOf`, Shown.antt)
 abbrev pub modeIs : FlightMode → FlightMode → Bool
 modeIs m n = eqb (letterOf m) (letterOf n)
 

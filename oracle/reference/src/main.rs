@@ -51,7 +51,7 @@ fn write(bytes: &[u8]) -> ExitCode {
 
 fn number(word: &str) -> u64 {
     word.parse().unwrap_or_else(|_| {
-        eprintln!("'{word}' is not a whole number");
+        eprintln!("'{word}' is not a whole number from 0 to 2^64 - 1");
         std::process::exit(2)
     })
 }

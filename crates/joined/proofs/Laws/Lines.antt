@@ -1,11 +1,12 @@
 -- What a line shows is the state after its call: the share or tilt of the machine and the thrust. So every line that is answered is in range, as the states are. Assumes nothing.
-use mathlib.Core.Path.{_≡_, refl, sym, subst}
+use mathlib.Core.Path.{_≡_, refl, sym, subst, _∙_, ap}
 use mathlib.Core.List.{List, [], _∷_}
 use lib.Ieee.{Float}
 use Rattle.machines.specs.declared.ModeRefusal.{ModeRefusal}
 use Rattle.machines.specs.declared.ModeRefusal.the-variants.{RollError}
 use Rattle.machines.specs.declared.answer.ShareOrTilt.{ShareOrTilt}
 use Rattle.machines.specs.declared.answer.ShareOrTilt.the-variants as output
+use Rattle.machines.specs.declared.answer.TransitionStep.{TransitionStep}
 use Rattle.machines.specs.declared.answer.TransitionAnswer.{TransitionAnswer}
 use Rattle.machines.specs.declared.answer.TransitionAnswer.the-variants as moved
 use Rattle.machines.specs.Transition as tailsitter
@@ -22,7 +23,7 @@ use Rattle.joined.specs.declared.machine.MachineUpdate.{MachineUpdate}
 use Rattle.joined.specs.declared.joined.Joined.{Joined}
 use Rattle.joined.specs.declared.joined.JoinedUpdate.{JoinedUpdate}
 use Rattle.joined.specs.Machine.{primeMachineOf, setMachineOf, updateMachineOf, cutMachineOf, pastRollLimitOf}
-use Rattle.joined.specs.Joined.{steppedIf, cutOr, stepIf, primedIf, cutIf, setIf, callOf}
+use Rattle.joined.specs.Joined.{initial, answeredIf, stepped, cutOr, stepIf, afterCut, afterSettings, callOf}
 use Rattle.joined.specs.List.{Binary32Calls, after, answersOf, OutputInRange, InUnit, ShownInRange, LineInRange, LinesInRange}
 use Rattle.joined.proofs.Laws.Effects.{moving, Update, refused, taken, update, setting, set-cases}
 use Rattle.joined.proofs.Laws.RangesThrust.{if-cases}
@@ -74,34 +75,24 @@ Shows (answer.Line line) j = (line .output ≡ outputOf (j .machine)) × (line .
 abbrev Answered : JoinedUpdate → Type 0
 Answered u = Shows (u .answer) (u .joined)
 
-stepped-shows : (a : TransitionAnswer) (j : Joined) (m : Machine) (i : StepInput) → ShowsMachine a m → Answered (steppedIf a j m i)
-stepped-shows (moved.Refused why) j m i h = tt
-stepped-shows (moved.Step s) j m i h = (h, refl)
+-- where the machine after it is m, which the machine's answer shows
+answered-shows : (a : TransitionAnswer) (j : Joined) (next : TransitionStep → Joined) (m : Machine) → ((s : TransitionStep) → next s .machine ≡ m) → ShowsMachine a m
+    → Answered (answeredIf a j next)
+answered-shows (moved.Refused why) j next m is h = tt
+answered-shows (moved.Step s) j next m is h = (h ∙ ap outputOf (sym (is s)), refl)
 
 step-shows : (a : TransitionAnswer) (u : MachineUpdate) (j : Joined) (i : StepInput) → Updated u → Answered (stepIf a u j i)
 step-shows (moved.Refused why) u j i h = tt
 step-shows (moved.Step s) u j i h =
     let v = cutOr (j .machine) (i .«bank_rad») u in
-    stepped-shows (v .answer) j (v .machine) i
+    answered-shows (v .answer) j (λ s. stepped j (v .machine) s i) (v .machine) (λ s. refl)
     (if-cases Updated (pastRollLimitOf (j .machine) (i .«bank_rad»)) (cutMachineOf (j .machine) RollError) u (λ t. cut-shows (j .machine) RollError) (λ t. h))
 
-primed-shows : (a : TransitionAnswer) (j : Joined) (m : Machine) → ShowsMachine a m → Answered (primedIf a j m)
-primed-shows (moved.Refused why) j m h = tt
-primed-shows (moved.Step s) j m h = (h, refl)
-
-cut-if-shows : (a : TransitionAnswer) (j : Joined) (m : Machine) → ShowsMachine a m → Answered (cutIf a j m)
-cut-if-shows (moved.Refused why) j m h = tt
-cut-if-shows (moved.Step s) j m h = (h, refl)
-
-set-if-shows : (a : TransitionAnswer) (j : Joined) (m : Machine) → ShowsMachine a m → Answered (setIf a j m)
-set-if-shows (moved.Refused why) j m h = tt
-set-if-shows (moved.Step s) j m h = (h, refl)
-
 call-shows : (j : Joined) (c : Call) → Answered (callOf j c)
-call-shows j (call.Prime z) = primed-shows (primeMachineOf (j .machine) z .answer) j (primeMachineOf (j .machine) z .machine) (prime-shows (j .machine) z)
+call-shows j (call.Prime z) = let u = primeMachineOf (j .machine) z in answered-shows (u .answer) j (λ s. initial (u .machine)) (u .machine) (λ s. refl) (prime-shows (j .machine) z)
 call-shows j (call.Step i) = step-shows (updateMachineOf (j .machine) i .answer) (updateMachineOf (j .machine) i) j i (update-shows (j .machine) i)
-call-shows j (call.Cut why) = cut-if-shows (cutMachineOf (j .machine) why .answer) j (cutMachineOf (j .machine) why .machine) (cut-shows (j .machine) why)
-call-shows j (call.Settings s) = set-if-shows (setMachineOf (j .machine) s .answer) j (setMachineOf (j .machine) s .machine) (set-shows (j .machine) s)
+call-shows j (call.Cut why) = let u = cutMachineOf (j .machine) why in answered-shows (u .answer) j (λ s. afterCut j (u .machine) s) (u .machine) (λ s. refl) (cut-shows (j .machine) why)
+call-shows j (call.Settings s) = let u = setMachineOf (j .machine) s in answered-shows (u .answer) j (λ t. afterSettings j (u .machine)) (u .machine) (λ t. refl) (set-shows (j .machine) s)
 
 -- ---- so it is in range
 output-shown : (m : Machine) → OutputInRange m → ShownInRange (outputOf m)

@@ -27,7 +27,7 @@ use Rattle.joined.specs.declared.joined.Joined.{Joined}
 use Rattle.joined.specs.declared.joined.NewJoined.the-variants as made
 use Rattle.joined.specs.Machine.{airframeOf, stateIn, modeOf, handoffTimeOf}
 use Rattle.joined.specs.Machine.{primeMachineOf, setMachineOf, updateMachineOf, cutMachineOf, pastRollLimitOf}
-use Rattle.joined.specs.Joined.{initial, newOf, freshHandoff, startsHandoff, thrustOf, steppedHandoff, stepped, steppedIf, cutOr, stepIf, stepOf, primedIf, cutIf, setIf, callOf}
+use Rattle.joined.specs.Joined.{initial, newOf, freshHandoff, startsHandoff, thrustOf, steppedHandoff, stepped, answeredIf, cutOr, stepIf, stepOf, afterCut, afterSettings, callOf}
 use Rattle.joined.specs.List.{Binary32Settings, Binary32Step, Binary32Call, Binary32Calls, after, InUnit, OutputInRange}
 use Rattle.joined.proofs.Laws.Effects.{validityIn, setting, set-cases, newWith, new-made}
 use Rattle.joined.proofs.Laws.RangesSettings.{tailsitter-settings, quadplane-settings}
@@ -123,9 +123,10 @@ stepped-ranges j m s i h r k =
     let t = machine-thrust m (s .mode) (steppedHandoff j m s) i h k handoff in
     record { machine = k; handoff = t .handoff; thrust = t .thrust }
 
-stepped-if : (a : TransitionAnswer) (j : Joined) (m : Machine) (i : StepInput) → Binary32Step i → Ranges j → MachineRanges m → Ranges (steppedIf a j m i .joined)
-stepped-if (moved.Refused why) j m i h r k = r
-stepped-if (moved.Step s) j m i h r k = stepped-ranges j m s i h r k
+-- by the machine's answer: refused or not
+answered-ranges : (a : TransitionAnswer) (j : Joined) (next : TransitionStep → Joined) → Ranges j → ((s : TransitionStep) → Ranges (next s)) → Ranges (answeredIf a j next .joined)
+answered-ranges (moved.Refused why) j next r k = r
+answered-ranges (moved.Step s) j next r k = k s
 
 -- the cut for a roll, or the update u
 step-if : (a : TransitionAnswer) (u : MachineUpdate) (j : Joined) (i : StepInput) → Binary32Step i → Ranges j → MachineRanges (u .machine) → Ranges (stepIf a u j i .joined)
@@ -133,37 +134,36 @@ step-if (moved.Refused why) u j i h r k = r
 step-if (moved.Step s) u j i h r k =
     let m = j .machine in
     let w = cutOr m (i .«bank_rad») u in
-    stepped-if (w .answer) j (w .machine) i h r
-    (if-cases (λ (n : MachineUpdate). MachineRanges (n .machine)) (pastRollLimitOf m (i .«bank_rad»)) (cutMachineOf m RollError) u (λ t. cut-machine m RollError (r .machine)) (λ t. k))
+    let n : MachineRanges (w .machine) =
+    if-cases (λ (n : MachineUpdate). MachineRanges (n .machine)) (pastRollLimitOf m (i .«bank_rad»)) (cutMachineOf m RollError) u (λ t. cut-machine m RollError (r .machine)) (λ t. k) in
+    answered-ranges (w .answer) j (λ s. stepped j (w .machine) s i) r (λ s. stepped-ranges j (w .machine) s i h r n)
 
 -- a step, refused or not
 step-ranges : (j : Joined) (i : StepInput) → Binary32Step i → Ranges j → Ranges (stepOf j i .joined)
 step-ranges j i h r = let u = updateMachineOf (j .machine) i in step-if (u .answer) u j i h r (update-machine (j .machine) i h (r .machine))
 
--- ---- the other calls, by the machine's answer
-prime-if : (a : TransitionAnswer) (j : Joined) (m : Machine) → Ranges j → MachineRanges m → Ranges (primedIf a j m .joined)
-prime-if (moved.Refused why) j m r k = r
-prime-if (moved.Step s) j m r k = initial-ranges m k
-
-cut-if : (a : TransitionAnswer) (j : Joined) (m : Machine) → Ranges j → MachineRanges m → Ranges (cutIf a j m .joined)
-cut-if (moved.Refused why) j m r k = r
-cut-if (moved.Step s) j m r k =
+-- ---- a cut
+after-cut-ranges : (j : Joined) (m : Machine) (s : TransitionStep) → Ranges j → MachineRanges m → Ranges (afterCut j m s)
+after-cut-ranges j m s r k =
     record {
       machine = k;
       handoff = if-cases HandoffRanges (s .handoff) (freshHandoff m (j .thrust)) (j .handoff) (λ t. fresh-ranges m (j .thrust) k (r .thrust)) (λ t. r .handoff);
       thrust = r .thrust;
     }
 
-set-if : (a : TransitionAnswer) (j : Joined) (m : Machine) → Ranges j → MachineRanges m → Ranges (setIf a j m .joined)
-set-if (moved.Refused why) j m r k = r
-set-if (moved.Step s) j m r k = record { machine = k; handoff = r .handoff; thrust = r .thrust }
-
 -- ---- one call, and all
 pub call-ranges : (j : Joined) (c : Call) → Binary32Call c → Ranges j → Ranges (callOf j c .joined)
-call-ranges j (call.Prime z) h r = let u = primeMachineOf (j .machine) z in prime-if (u .answer) j (u .machine) r (prime-machine (j .machine) z (r .machine))
+call-ranges j (call.Prime z) h r =
+    let u = primeMachineOf (j .machine) z in
+    answered-ranges (u .answer) j (λ s. initial (u .machine)) r (λ s. initial-ranges (u .machine) (prime-machine (j .machine) z (r .machine)))
 call-ranges j (call.Step i) h r = step-ranges j i h r
-call-ranges j (call.Cut why) h r = let u = cutMachineOf (j .machine) why in cut-if (u .answer) j (u .machine) r (cut-machine (j .machine) why (r .machine))
-call-ranges j (call.Settings s) h r = let u = setMachineOf (j .machine) s in set-if (u .answer) j (u .machine) r (set-machine (j .machine) s h (r .machine))
+call-ranges j (call.Cut why) h r =
+    let u = cutMachineOf (j .machine) why in
+    answered-ranges (u .answer) j (λ s. afterCut j (u .machine) s) r (λ s. after-cut-ranges j (u .machine) s r (cut-machine (j .machine) why (r .machine)))
+call-ranges j (call.Settings s) h r =
+    let u = setMachineOf (j .machine) s in
+    answered-ranges (u .answer) j (λ t. afterSettings j (u .machine)) r
+    (λ t. record { machine = set-machine (j .machine) s h (r .machine); handoff = r .handoff; thrust = r .thrust })
 
 pub every-ranges : (j : Joined) → Ranges j → (cs : List Call) → Binary32Calls cs → Ranges (after j cs)
 every-ranges j r [] h = r

@@ -47,7 +47,7 @@ use Rattle.joined.specs.declared.joined.Joined.{Joined}
 use Rattle.joined.specs.declared.joined.NewJoined.{NewJoined}
 use Rattle.joined.specs.declared.joined.NewJoined.the-variants as made
 use Rattle.joined.specs.Machine.{stateIn, pastRollLimitOf, liftTransitionConfigOf}
-use Rattle.joined.specs.Joined.{initial, newOf, stepOf, setIf, callOf}
+use Rattle.joined.specs.Joined.{initial, newOf, stepOf, setBy, callOf}
 use Rattle.joined.specs.Shown.{Shown, refused, line, shownOf, letterOf, flagOf}
 use Rattle.joined.specs.List.{after, answersOf, shownAll, modeAt, abandonmentAt, clockAt, minHeightOf, planeMinHeightOf, isAccepted, EachCall}
 use Rattle.joined.proofs.Laws.Effects.{movedIn, badTilt, set-cases}
@@ -500,7 +500,7 @@ call-waits (machine.Quadplane m) h d t (call.Step i) w absent =
 call-waits (machine.Quadplane m) h d t (call.Cut why) w absent = w
 call-waits (machine.Quadplane m) h d t (call.Settings s) w absent =
     let q = machine.Quadplane m in
-    set-cases (λ (u : MachineUpdate). NoRamp (setIf (u .answer) (joined q h d t) (u .machine) .joined .machine)) q s (λ e. w) (λ field. w)
+    set-cases (λ (u : MachineUpdate). NoRamp (setBy (joined q h d t) u .joined .machine)) q s (λ e. w) (λ field. w)
 
 never-ramps : (j : Joined) (cs : List Call) → NoRamp (j .machine) → EachCall (λ k c. NoAirspeed c) j cs → NoRamp (after j cs .machine)
 never-ramps j [] w absent = w

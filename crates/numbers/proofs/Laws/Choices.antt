@@ -43,30 +43,22 @@ Either x y z = (z ≡ x) ⊎ (z ≡ y)
 pub either-holds : (P : Float → Type 0) (x y z : Float) → Either x y z → P x → P y → P z
 either-holds P x y z e p q = elim e [ inl i ↦ subst P (sym i) p | inr i ↦ subst P (sym i) q ]
 
--- z is x or y, and at most each
-pub record Least (x y z : Float) : Type 0 where
-  pub left : T (le z x)
-  pub right : T (le z y)
+-- z is x or y, and each of them has the relation R to it
+pub record Chosen (R : Float → Float → Type 0) (x y z : Float) : Type 0 where
+  pub left : R x z
+  pub right : R y z
   pub either : Either x y z
 
--- z is x or y, and at least each
-pub record Greatest (x y z : Float) : Type 0 where
-  pub left : T (le x z)
-  pub right : T (le y z)
-  pub either : Either x y z
+-- y if the test b passes, else x: where no NaN is (a) and each outcome of b says how the two stand
+chosen : (R : Float → Float → Type 0) (x y : Float) (a b : Bool) → T (not a) → R x x → R y y → (T b → R x y) → (T (not b) → R y x)
+    → Chosen R x y (if a then y else if b then y else x)
+chosen R x y true b n p q h k = absurd n
+chosen R x y false true n p q h k = record { left = h tt; right = q; either = inr refl }
+chosen R x y false false n p q h k = record { left = p; right = k tt; either = inl refl }
 
-pub min-least : (x y : Float) → T (number x) → T (number y) → Least x y (minOf x y)
-min-least x y p q = go (isNan x) (lt y x) p (lt→le y x) (not-lt→le y x q p)
-  where
-    go : (a b : Bool) → T (not a) → (T b → T (le y x)) → (T (not b) → T (le x y)) → Least x y (if a then y else if b then y else x)
-    go true b n h k = absurd n
-    go false true n h k = record { left = h tt; right = le-refl-number y q; either = inr refl }
-    go false false n h k = record { left = le-refl-number x p; right = k tt; either = inl refl }
+-- min is at most each, max at least each
+pub min-least : (x y : Float) → T (number x) → T (number y) → Chosen (λ u z. T (le z u)) x y (minOf x y)
+min-least x y p q = chosen (λ u z. T (le z u)) x y (isNan x) (lt y x) p (le-refl-number x p) (le-refl-number y q) (lt→le y x) (not-lt→le y x q p)
 
-pub max-greatest : (x y : Float) → T (number x) → T (number y) → Greatest x y (maxOf x y)
-max-greatest x y p q = go (isNan x) (lt x y) p (lt→le x y) (not-lt→le x y p q)
-  where
-    go : (a b : Bool) → T (not a) → (T b → T (le x y)) → (T (not b) → T (le y x)) → Greatest x y (if a then y else if b then y else x)
-    go true b n h k = absurd n
-    go false true n h k = record { left = h tt; right = le-refl-number y q; either = inr refl }
-    go false false n h k = record { left = le-refl-number x p; right = k tt; either = inl refl }
+pub max-greatest : (x y : Float) → T (number x) → T (number y) → Chosen (λ u z. T (le u z)) x y (maxOf x y)
+max-greatest x y p q = chosen (λ u z. T (le u z)) x y (isNan x) (lt x y) p (le-refl-number x p) (le-refl-number y q) (lt→le x y) (not-lt→le x y p q)

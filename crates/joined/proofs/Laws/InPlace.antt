@@ -19,7 +19,7 @@ use prog.Machine.{done as ended}
 use prog.Routine.{Routine, anyName}
 use ghost.Atoms.{Atoms, sem}
 use ghost.Model.{𝓤, H, model}
-use types.Kit.{Given, ‵, raw, _⊛_, some, later, _$_, _∵_, !, qed, move, keep, use1, use3, split, join}
+use types.Kit.{Given, ‵, raw, _⊛_, some, later, _$_, _∵_, !, qed, move, keep, use0, use1, use3, split, join}
 use types.Kit.{fsplit, pick, rewrite, suffices, frame, await, updating, now as at-once, done, fjoin, fpick, fpack}
 use types.Tokens.{lft-new, lft-end}
 use types.SemTy.{Body}
@@ -31,6 +31,7 @@ use contract.Running.{Running, real, givenOf, tables}
 use contract.BorrowModel.{ghost₀}
 use contract.Adequate.{Satisfies, sat-weaken, sat-fact, sat-ex∗, sat-⇛, sat-upd}
 use denote.Memory.{partAt, mem, partOf, cellAt}
+use denote.RattleType.{RattleType, owns}
 use denote.Laws.{Is, shows}
 use denote.Ref.{RefT, MutRef}
 use denote.Lend.{lends-ref, ref-back}
@@ -61,6 +62,27 @@ use Rattle.joined.proofs.joined.Joined.enter as f
 use Rattle.joined.proofs.joined.Joined.enter.Symbol as f-def
 use Rattle.joined.proofs.joined.Joined.enter.Met as f-thm
 
+-- ---- in any model and at any types: the check would compute with the closed model, which takes it seconds
+-- a record of the row R is lent to a call that takes a reference to it, and a value of the row I that is had for nothing
+module _ {M : Type 1} (𝓥 : URA M) (K : Heap 𝓥) (B : Atoms 𝓥) (L : Given 𝓥 K B) (R I : RattleType) (b o : ℕ) (j : R .Denot) (i : I .Denot) (u : Val) where
+  -- the lender's part, and what the call asks
+  abbrev Lent : ℕ → GName → SProp 𝓥
+  Lent α δ = sep 𝓥 (B .lent (α ∷ []) (Body (mem R) b o δ)) (sep 𝓥 (sep 𝓥 (sep 𝓥 (B .lft (α ∷ []) fullShare) (emp 𝓥))
+      (sem 𝓥 K B (owns (MutRef (named 0) (α ∷ []) R ∷ I ∷ []) (record { ptr = (b, o); name = δ; now = j }, (i, tt)) (vptr b o ∷ [], (u ∷ [], tt))))) (emp 𝓥))
+
+  lends-any : ent 𝓥 (emp 𝓥) (sem 𝓥 K B (I .own i (u ∷ [])))
+      → ent 𝓥 (sem 𝓥 K B (partAt R fullShare j b o)) (K .⇛ (ex 𝓥 (λ (α : ℕ). ex 𝓥 (λ (δ : GName). Lent α δ))))
+  lends-any had =
+      qed L (‵ (partAt R fullShare j b o) ∷ []) ∵ updating ! $ lft-new ! tt (λ α. move ! (1 ∷ []) $
+      use1 L (later (some (λ (δ : GName). ‵ (MutRef (named 0) (α ∷ []) R .own (record { ptr = (b, o); name = δ; now = j }) (vptr b o ∷ []))
+      ⊛ ‵ (flent (α ∷ []) (Body (mem R) b o δ))))) (lends-ref 𝓥 K B L R (named 0) (α ∷ []) j b o) $
+      await ! tt $ pick ! (λ δ. split ! $ at-once ! $
+      suffices ! (Lent α δ) (via 𝓥 (ex 𝓥 (λ (δ′ : GName). Lent α δ′)) (exI 𝓥 (λ (δ′ : GName). Lent α δ′) δ) (exI 𝓥 (λ (α′ : ℕ). ex 𝓥 (λ (δ′ : GName). Lent α′ δ′)) α)) $
+      move ! (1 ∷ 2 ∷ 0 ∷ []) $ frame ! $
+      -- [the token; the reference]
+      nothing ! $ use0 L (‵ (I .own i (u ∷ []))) had $ join ! $ move ! (2 ∷ 0 ∷ []) $ join ! $ nothing ! $ move ! (2 ∷ 0 ∷ []) $ join ! $ join ! $ frame ! $ done !))
+
+-- ---- this entry, in the closed model
 abbrev A : Atoms 𝓤
 A = ghost₀ .A
 
@@ -115,17 +137,7 @@ module _ (b o : ℕ) where
     After v = sep 𝓤 (Holds (to .joined)) (fact 𝓤 (v ≡ answer (to .answer)))
 
     lends : Binary32Step i → ent 𝓤 (Holds j) (H .⇛ (ex 𝓤 (λ (α : ℕ). ex 𝓤 (λ (δ : GName). sep 𝓤 (Aside α δ) (Asked α δ)))))
-    lends g =
-        qed W (‵ (partAt J.the-row fullShare j b o) ∷ []) ∵ updating ! $ lft-new ! tt (λ α. move ! (1 ∷ []) $
-        use1 W (later (some (λ (δ : GName). ‵ (MutRef (named 0) (α ∷ []) J.the-row .own (record { ptr = (b, o); name = δ; now = j }) (vptr b o ∷ []))
-        ⊛ ‵ (flent (α ∷ []) (Body (mem J.the-row) b o δ))))) (lends-ref 𝓤 H A W J.the-row (named 0) (α ∷ []) j b o) $
-        await ! tt $ pick ! (λ δ. split ! $ at-once ! $
-        suffices ! (sep 𝓤 (Aside α δ) (Asked α δ)) (via 𝓤 (ex 𝓤 (λ (δ′ : GName). sep 𝓤 (Aside α δ′) (Asked α δ′))) (exI 𝓤 (λ (δ′ : GName). sep 𝓤 (Aside α δ′) (Asked α δ′)) δ)
-        (exI 𝓤 (λ (α′ : ℕ). ex 𝓤 (λ (δ′ : GName). sep 𝓤 (Aside α′ δ′) (Asked α′ δ′))) α)) $
-        move ! (1 ∷ 2 ∷ 0 ∷ []) $ frame ! $
-        -- [the token; the reference]
-        nothing ! $ owned ! I.the-row (Is I.the-row) (LL.makes I.the-type I′.the-plain 𝓤 H A) i (input-value i ∷ []) (input-is i g) $ join ! $
-        move ! (2 ∷ 0 ∷ []) $ join ! $ nothing ! $ move ! (2 ∷ 0 ∷ []) $ join ! $ join ! $ frame ! $ done !))
+    lends g = lends-any 𝓤 H A W J.the-row I.the-row b o j i (input-value i) (LL.makes I.the-type I′.the-plain 𝓤 H A i (input-value i ∷ []) (input-is i g))
 
     takes-back : (α : ℕ) (δ : GName) (v : Val) → ent 𝓤 (sep 𝓤 (Got α δ v) (Aside α δ)) (H .⇛ (After v))
     takes-back α δ v =

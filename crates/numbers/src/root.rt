@@ -1,4 +1,5 @@
-// The square root by whole numbers (document 01, section 1).
+// The square root by whole-number squares (document 01, section 1).
+use crate::bits::to_bits;
 use crate::constants::nan;
 use crate::ranges::is_positive;
 ghost use mathlib.Core.Path.{_≡_};
@@ -56,6 +57,59 @@ fn root_small(b: u32) -> u32
     rooted(m, f)
 }
 
+// A guess at the 24 binary digits of the root of the number with the bits `b`: two steps of Newton's method in binary32, from bits that are half of `b`. What is made of it is tested, in whole numbers.
+fn guess(b: u32) -> u64
+    requires { ⌜ b < 0x7F80_0000 ⌝ }
+    ensures { λ r. ⌜ (2 ^ 23 ≤ r) × (r < 2 ^ 24) ⌝ }
+{
+    let x = f32::from_bits(b);
+    let y = f32::from_bits(b / 2 + 0x1FBB_5000);
+    let z = 0.4998779296875 * y + 0.4998779296875 * x / y;
+    (to_bits(0.5 * z + 0.5 * x / z) % 0x80_0000 + 0x80_0000) as u64
+}
+
+// A quarter of what `root_digits` takes the root of.
+fn scaled(m: u64, f: u64) -> u64
+    requires { ⌜ m < 2 ^ 24 ⌝ }
+    ensures { λ r. ⌜ (r * 4 ≡ m * 2 ^ (25 + f % 2)) × (r < 2 ^ 48) ⌝ }
+{
+    if f % 2 == 0 {
+        m * 0x80_0000
+    } else {
+        m * 0x100_0000
+    }
+}
+
+// The guess `c` at √n, or the next number up or down where that is nearer.
+fn nudged(n: u64, c: u64) -> u64
+    requires { ⌜ (n < 2 ^ 48) × (0 < c) × (c < 2 ^ 24) ⌝ }
+    ensures { λ r. ⌜ r ≤ 2 ^ 24 ⌝ }
+{
+    let square = c * c;
+    if square + c < n {
+        c + 1
+    } else if n + c <= square {
+        c - 1
+    } else {
+        c
+    }
+}
+
+// The same as `rooted`, with a guess `c` at the root's 24 digits, which is right if c·c - c < n ≤ c·c + c.
+fn rooted_near(m: u64, f: u64, c: u64) -> u32
+    requires { ⌜ (2 ^ 23 ≤ m) × (m < 2 ^ 24) × (f < 400) × (c ≤ 2 ^ 24) ⌝ }
+    ensures { λ r. ⌜ (ofBits binary32 r ≡ rootRound (m * 2 ^ (f + 25))) × (r < 0x7F80_0000) ⌝ }
+{
+    let n = scaled(m, f);
+    let square = c * c;
+    if square < n + c {
+        if n <= square + c {
+            return (f / 2 * 0x80_0000 + c) as u32;
+        }
+    }
+    rooted(m, f)
+}
+
 // The bits of the root of a finite number above zero, from that number's bits.
 fn root_bits(b: u32) -> u32
     requires { ⌜ (0 < b) × (b < 0x7F80_0000) ⌝ }
@@ -64,10 +118,9 @@ fn root_bits(b: u32) -> u32
     if b < 0x80_0000 {
         root_small(b)
     } else {
-        rooted(
-            (b % 0x80_0000 + 0x80_0000) as u64,
-            (b / 0x80_0000 + 125) as u64,
-        )
+        let m = (b % 0x80_0000 + 0x80_0000) as u64;
+        let f = (b / 0x80_0000 + 125) as u64;
+        rooted_near(m, f, nudged(scaled(m, f), guess(b)))
     }
 }
 

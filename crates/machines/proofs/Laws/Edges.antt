@@ -2,10 +2,12 @@
 use mathlib.Core.Path.{_≡_, refl}
 use mathlib.Core.Bool.{Bool, true, false}
 use Prim.Native.Nat.{ℕ}
+use lib.Dec.{T}
 use lib.Ieee.{Float, nan, inf, ofBits, add, sub, mul, lt, le, neg, isNan}
 use Rattle.numbers.specs.Numbers.{_⊕_, floatOf, zero32, one32}
 use Rattle.numbers.specs.Ranges.{positive}
 use Rattle.numbers.specs.Vectors.{noseUpOf}
+use Rattle.numbers.proofs.Laws.Order.{lt→le, lt-not-le}
 use Rattle.machines.specs.declared.FlightMode.the-variants as mode
 use Rattle.machines.specs.declared.FlightRegime.the-variants as regime
 use Rattle.machines.specs.declared.MaybeRefusal.the-variants as refusal
@@ -55,10 +57,13 @@ pub readings : (readingOf (Present minus-zero) ≡ reading.Valid minus-zero) × 
 unfolding ofBits le
 readings = (refl, refl, refl)
 
--- a new handoff of duration 0 is inactive
-pub durations : activeOf (newHandoff zero32) ≡ false
-unfolding ofBits lt
-durations = refl
+-- a new handoff is inactive, whatever its duration
+never : (b : Bool) → (T b → ⊥) → b ≡ false
+never true h = absurd (h tt)
+never false h = refl
+
+pub durations : (d : Float) → activeOf (newHandoff d) ≡ false
+durations d = never (lt d d) (λ (h : T (lt d d)). lt-not-le d d h (lt→le d d h))
 
 -- gain 0 and climb −∞ give thrust 0; a NaN climb does not act
 pub sinks : (guardSinkOf one32 (inf true) one32 zero32 ≡ guarded.Thrust zero32) × (guardSinkOf one32 nan one32 one32 ≡ guarded.None)

@@ -39,6 +39,12 @@ impl Flat {
             .zip(numbers)
             .map(|(option, numbers)| Step::new(*option, *numbers))
     }
+
+    /// The sum of what `answer` gives for the steps.
+    #[inline(always)]
+    fn sum(&self, answer: impl FnMut(Step) -> u32) -> u32 {
+        self.steps().map(answer).fold(0, u32::wrapping_add)
+    }
 }
 
 unsafe extern "C" {
@@ -97,27 +103,19 @@ fn input_of(step: &Step) -> plain::StepInput {
 #[inline(never)]
 fn plain_rust(flat: &Flat) -> u32 {
     let mut joined = plain::Joined::new(flat.airframe, &flat.settings);
-    let mut sum = 0u32;
-    for step in flat.steps() {
-        sum = sum.wrapping_add(match joined.step(&input_of(&step)) {
-            Ok(line) => sum_of(&line),
-            Err(refusal) => refusal,
-        });
-    }
-    sum
+    flat.sum(|step| match joined.step(&input_of(&step)) {
+        Ok(line) => sum_of(&line),
+        Err(refusal) => refusal,
+    })
 }
 
 #[inline(never)]
 fn reference_rust(flat: &Flat) -> u32 {
     let mut joined = joined::Joined::new(flat.airframe, &flat.settings).expect("good settings");
     joined.call(&Call::Prime(0.0)).expect("a prime");
-    let mut sum = 0u32;
-    for step in flat.steps() {
-        sum = sum.wrapping_add(match joined.call(&Call::Step(step)) {
-            Ok(line) => sum_of(&line),
-            Err(Refusal::Number(refusal)) => u32::from(refusal),
-            Err(Refusal::Setting(_)) => unreachable!("a step has no settings"),
-        });
-    }
-    sum
+    flat.sum(|step| match joined.call(&Call::Step(step)) {
+        Ok(line) => sum_of(&line),
+        Err(Refusal::Number(refusal)) => u32::from(refusal),
+        Err(Refusal::Setting(_)) => unreachable!("a step has no settings"),
+    })
 }

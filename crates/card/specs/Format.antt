@@ -10,6 +10,7 @@ use Rattle.machines.specs.declared.ModeRefusal.the-variants as reason
 use Rattle.machines.specs.Refusals.{fieldOf}
 use Rattle.joined.specs.declared.settings.Settings.{Settings}
 use Rattle.joined.specs.declared.call.StepInput.{StepInput}
+use Rattle.joined.specs.declared.call.Call.{Call}
 use Rattle.joined.specs.declared.call.Call.the-variants as call
 use Rattle.joined.specs.declared.machine.Airframe.the-variants as airframe
 use Rattle.joined.specs.declared.joined.NewJoined.{NewJoined}
@@ -48,11 +49,15 @@ abbrev pub stepInputAt : List ℕ → ℕ → StepInput
 stepInputAt card i = stepInputBy (optionAt card i) (numberAt card i)
 
 -- ---- a record after the header, by its option: "1 prime (2 = z); 2 step; 3 cut, option 11 to 16; 4 settings. .. Other options .. are 0."
+-- a call, if its option is one that it may have
+abbrev pub knownIf : Bool → Call → Record
+knownIf good c = if good then says.Known c else says.Unknown
+
 abbrev pub primeAt : List ℕ → ℕ → Record
-primeAt card i = if eqb (optionAt card i) 0 then says.Known (call.Prime (numberAt card i 2)) else says.Unknown
+primeAt card i = knownIf (eqb (optionAt card i) 0) (call.Prime (numberAt card i 2))
 
 abbrev pub stepAt : List ℕ → ℕ → Record
-stepAt card i = if leb (optionAt card i) 3 then says.Known (call.Step (stepInputAt card i)) else says.Unknown
+stepAt card i = knownIf (leb (optionAt card i) 3) (call.Step (stepInputAt card i))
 
 -- the option is the reason's number (section 10)
 abbrev pub cutFor : ℕ → Record
@@ -66,7 +71,7 @@ cutFor option =
     else says.Unknown
 
 abbrev pub newSettingsAt : List ℕ → ℕ → Record
-newSettingsAt card i = if eqb (optionAt card i) 0 then says.Known (call.Settings (settingsAt card i)) else says.Unknown
+newSettingsAt card i = knownIf (eqb (optionAt card i) 0) (call.Settings (settingsAt card i))
 
 -- by its kind
 unfoldable pub recordAt : List ℕ → ℕ → Record

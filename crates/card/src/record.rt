@@ -18,9 +18,8 @@ use numbers::vector::Vec3;
 ghost use mathlib.Core.Path.{_≡_};
 ghost use Prim.Native.Nat.{_+_, _*_, _≤_, _<_};
 ghost use lib.ListN.{length};
-ghost use Rattle.numbers.specs.Numbers.{if_then_else_};
 ghost use Rattle.joined.specs.Joined.{newOf};
-ghost use Rattle.card.specs.Format.{nextAt, kindAt, optionAt, numberAt, settingsAt, vehicleAt, stepInputAt, cutFor, recordAt, isKnown, headerFor, headerOf};
+ghost use Rattle.card.specs.Format.{nextAt, kindAt, optionAt, numberAt, settingsAt, vehicleAt, stepInputAt, knownIf, cutFor, recordAt, isKnown, headerFor, headerOf};
 
 // What a record after the header says: a call, or a kind or option that section 7 does not name.
 pub(crate) enum Record {
@@ -138,7 +137,7 @@ fn step_input_at(card: &[u8], i: usize) -> StepInput
 
 // The call, if its option is one that it may have.
 fn known_if(good: bool, call: Call) -> Record
-    ensures { λ r. ⌜ r ≡ (if good then Record.Known call else Record.Unknown) ⌝ }
+    ensures { λ r. ⌜ r ≡ knownIf good call ⌝ }
 {
     if good {
         Record::Known(call)

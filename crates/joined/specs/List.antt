@@ -10,13 +10,13 @@
 -- `num` and `den` (a finite number's size as a fraction).
 use mathlib.Core.Path.{_≡_}
 use mathlib.Core.Bool.{Bool, true, false, not, _&&_, _||_}
-use mathlib.Core.List.{List, [], _∷_, _++_}
+use mathlib.Core.List.{List, [], _∷_, _++_, map}
 use mathlib.Core.Logic.{_⊎_}
 use Prim.Native.Nat.{ℕ, suc, _+_, _*_, _≤_, _<_}
 use lib.Dec.{T}
-use lib.Ieee.{Float, binary32, fits, lt, le}
+use lib.Ieee.{Float, lt, le}
 use lib.Ieee.Positive.{num, den}
-use Rattle.numbers.specs.Numbers.{_⊖_, zero32, one32, pi32, floatOf, finite}
+use Rattle.numbers.specs.Numbers.{IsBinary32, _⊖_, zero32, one32, pi32, tick32, longest32, finite}
 use Rattle.machines.specs.declared.FlightMode.{FlightMode}
 use Rattle.machines.specs.declared.FlightMode.the-variants as mode
 use Rattle.machines.specs.declared.FlightRegime.{FlightRegime}
@@ -61,8 +61,7 @@ answersOf j (c ∷ cs) = callOf (after j cs) c .answer ∷ answersOf j cs
 
 -- answers in document 01's letters and numbers
 abbrev pub shownAll : List Answer → List Shown
-shownAll [] = []
-shownAll (a ∷ answers) = shownOf a ∷ shownAll answers
+shownAll answers = map shownOf answers
 
 -- ---- a state
 
@@ -275,13 +274,6 @@ pub record InPlane (j : Joined) (cs : List Call) : Type 0 where
 -- ---- in ToPlane or ToCopter: the calls cs are
 --   cs  =  since ++ the step that entered the mode ∷ before
 
--- 1/1024 s, and 16,384 s
-abbrev pub tick32 : Float
-tick32 = floatOf 0x3A80_0000
-
-abbrev pub longest32 : Float
-longest32 = floatOf 0x4680_0000
-
 -- k ≤ 1024 × bound, for a bound below 16,384 s; the bound is the fraction num/den
 abbrev pub Within : ℕ → Float → Type 0
 Within k bound = T (lt bound longest32) → k * den bound ≤ 1024 * num bound
@@ -374,9 +366,6 @@ pub record Claim (a : Airframe) (s : Settings) (j : Joined) (cs : List Call) (an
   pub by-mode : ByMode (modeAt end) j cs
 
 -- ---- the theorem's only hypothesis on settings and calls: their numbers are binary32 values. The NaN and the infinities are such values.
-abbrev pub IsBinary32 : Float → Type 0
-IsBinary32 x = T (fits binary32 x)
-
 abbrev pub Binary32Settings : Settings → Type 0
 Binary32Settings s =
     IsBinary32 (s .n1) × IsBinary32 (s .n2) × IsBinary32 (s .n3) × IsBinary32 (s .n4) × IsBinary32 (s .n5) × IsBinary32 (s .n6) × IsBinary32 (s .n7) × IsBinary32 (s .n8) × IsBinary32 (s .n9)

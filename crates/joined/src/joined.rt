@@ -18,7 +18,7 @@ use machines::deceleration::BackDeceleration;
 use machines::handoff::ThrustHandoff;
 use numbers::ranges::is_positive;
 ghost use mathlib.Core.Path.{_≡_};
-ghost use Rattle.joined.specs.Joined.{initial, newOf, answered, refusedBy, handoffIf, stepped, steppedBy, stepOf, primeOf, cutOf, setOf, callOf, EntrySays};
+ghost use Rattle.joined.specs.Joined.{initial, newOf, answered, refusedBy, answeredIf, handoffIf, stepped, steppedBy, stepOf, primeOf, cutOf, setOf, callOf, EntrySays};
 
 // The state. What it holds is nobody else's to write.
 pub struct Joined {
@@ -98,6 +98,16 @@ impl Joined {
         }
     }
 
+    // By the machine's answer: the state as it was, or the next one with the line that shows it.
+    fn answered_if(self, answer: TransitionAnswer, next: Joined) -> JoinedUpdate
+        ensures { λ r. ⌜ r ≡ answeredIf answer self (λ s. next) ⌝ }
+    {
+        match answer {
+            TransitionAnswer::Step(step) => next.answered(step),
+            TransitionAnswer::Refused(why) => self.refused(why),
+        }
+    }
+
     // A fresh handoff from the kept thrust, if one starts, or the old one.
     fn handoff_if(self, starts: bool, machine: Machine) -> ThrustHandoff
         ensures { λ r. ⌜ r ≡ handoffIf starts self machine ⌝ }
@@ -168,10 +178,7 @@ impl Joined {
         let update = machine.prime(z_m);
         let machine = update.machine;
         let answer = update.answer;
-        match answer {
-            TransitionAnswer::Step(step) => Joined::initial(machine).answered(step),
-            TransitionAnswer::Refused(why) => self.refused(why),
-        }
+        self.answered_if(answer, Joined::initial(machine))
     }
 
     // Cuts a transition short. Thrust and pitch stay. No machine refuses a cut.
@@ -203,10 +210,7 @@ impl Joined {
         let update = machine.set_config(settings);
         let machine = update.machine;
         let answer = update.answer;
-        match answer {
-            TransitionAnswer::Step(step) => Joined { machine, ..self }.answered(step),
-            TransitionAnswer::Refused(why) => self.refused(why),
-        }
+        self.answered_if(answer, Joined { machine, ..self })
     }
 
     // Any call.

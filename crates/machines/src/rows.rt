@@ -28,6 +28,7 @@ ghost use mathlib.Core.Path.{_≡_};
 ghost use Rattle.machines.specs.Gate.{holds, forwardRefusalOf, floorTrips};
 ghost use Rattle.machines.specs.Rows.{newState, primedState, answerOf, clearAbandonment, inMode, entering, abandonedMode, abandon, clockAfter, begin, plain, enters, handsOver, copterRow, toPlaneRow, planeRow, finish, toCopterRow, cutOf};
 
+// What both machines hold.
 pub struct TransitionState {
     pub gate: ForwardGate,
     pub mode: FlightMode,
@@ -166,11 +167,7 @@ impl TransitionState {
     fn to_mode(self, mode: FlightMode) -> Moved
         ensures { λ r. ⌜ r ≡ plain (inMode self mode) ⌝ }
     {
-        Moved {
-            state: TransitionState { mode, ..self },
-            entered: false,
-            handoff: false,
-        }
+        TransitionState { mode, ..self }.stay()
     }
 
     // The row ends a transition in `mode`, with handoff.

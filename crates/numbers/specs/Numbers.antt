@@ -3,13 +3,18 @@
 -- Assumes nothing.
 use mathlib.Core.Bool.{Bool, true, false}
 use Prim.Native.Nat.{ℕ, _+_, _*_}
-use lib.Ieee.{Float, nan, inf, fin, binary32, ofBits, toBits, add, sub, mul, div, lt, isNan}
+use lib.Dec.{T}
+use lib.Ieee.{Float, nan, inf, fin, binary32, ofBits, toBits, add, sub, mul, div, lt, isNan, fits}
 
 -- a choice by a test
 infixr 5 if_then_else_
 abbrev pub if_then_else_ : {A : Type 0} → Bool → A → A → A
 if true then x else y = x
 if false then x else y = y
+
+-- ---- a binary32 value: the NaN, an infinity, or a number that is written in 32 bits
+abbrev pub IsBinary32 : Float → Type 0
+IsBinary32 x = T (fits binary32 x)
 
 -- ---- "each operation rounded once in the written order"
 infixl 60 _⊕_ _⊖_
@@ -62,6 +67,13 @@ threeTenths32 = floatOf 0x3E99_999A
 -- π/180, "the rounded quotient": 4334 0000 is 180
 abbrev pub degree32 : Float
 degree32 = pi32 ⊘ floatOf 0x4334_0000
+
+-- 1/1024 s and 16,384 s, of demand 3
+abbrev pub tick32 : Float
+tick32 = floatOf 0x3A80_0000
+
+abbrev pub longest32 : Float
+longest32 = floatOf 0x4680_0000
 
 -- ---- neither an infinity nor a NaN
 abbrev pub finite : Float → Bool

@@ -19,7 +19,7 @@ use machines::setpoint::BodyRateSetpoint;
 use machines::setpoint::PlaneSetpoint;
 use machines::setpoint::RateSetpoint;
 use machines::setpoint::Setpoint;
-use numbers::vector::Vec3;
+ghost use Prim.Native.Nat.{_<_};
 
 // Kind 40: a new split; a refused one leaves the one kept.
 fn new_split(b: &[u8; 80], before: ForwardThrust) -> ForwardThrust {
@@ -52,11 +52,7 @@ fn split(b: &[u8; 80], kept: ForwardThrust) {
 fn limit(b: &[u8; 80]) {
     let rest = record::still();
     let state = VehicleState {
-        velocity_mps: Vec3 {
-            x: number(b, 3),
-            y: number(b, 4),
-            z: 0.0,
-        },
+        velocity_mps: record::horizontal(b, 3, 4),
         ..rest
     };
     show::number(
@@ -100,7 +96,9 @@ fn body_rate(b: &[u8; 80]) -> BodyRateSetpoint {
 }
 
 // The plane setpoint of three numbers.
-fn plane(b: &[u8; 80], roll: usize, pitch: usize, thrust: usize) -> PlaneSetpoint {
+fn plane(b: &[u8; 80], roll: usize, pitch: usize, thrust: usize) -> PlaneSetpoint
+    requires { ⌜ (roll < 20) × (pitch < 20) × (thrust < 20) ⌝ }
+{
     PlaneSetpoint {
         roll_rad: number(b, roll),
         pitch_rad: number(b, pitch),
@@ -144,7 +142,7 @@ fn thrust(b: &[u8; 80], before: ForwardThrust) -> ForwardThrust {
 }
 
 // Kinds 40 to 45.
-pub fn call(b: &[u8; 80], k: Kept) -> Kept {
+pub(crate) fn call(b: &[u8; 80], k: Kept) -> Kept {
     let kind = record::kind(b);
     match kind {
         40..=41 => {

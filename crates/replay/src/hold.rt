@@ -18,7 +18,7 @@ use numbers::logic::both;
 use numbers::logic::either;
 
 // The options of kind 45: an input 0 to 5, and 8 if fallen back; a waypoint's may have 16 and 32 too.
-pub fn has_option(option: u8) -> bool {
+pub(crate) fn has_option(option: u8) -> bool {
     let is_plain = both(option < 16, option % 8 <= 5);
     let is_waypoint = both(option < 64, option % 8 == 2);
     either(is_plain, is_waypoint)
@@ -189,7 +189,7 @@ fn flown(b: &[u8; 80], before: FallbackHold) -> FallbackHold {
 }
 
 // Kinds 44 and 45.
-pub fn call(b: &[u8; 80], before: FallbackHold) -> FallbackHold {
+pub(crate) fn call(b: &[u8; 80], before: FallbackHold) -> FallbackHold {
     let kind = record::kind(b);
     match kind {
         44 => new_hold(),

@@ -15,6 +15,7 @@ use machines::settings::TransitionConfig;
 use machines::vtol::Transition;
 use numbers::constants::nan;
 
+// What is kept from record to record.
 pub struct Kept {
     pub handoff: ThrustHandoff,
     pub deceleration: BackDeceleration,
@@ -38,7 +39,7 @@ fn new_state() -> TransitionState {
 }
 
 // What is kept before the first record.
-pub fn start() -> Kept {
+pub(crate) fn start() -> Kept {
     Kept {
         handoff: ThrustHandoff::inactive(0.0),
         deceleration: BackDeceleration::new(),

@@ -44,7 +44,7 @@ fn updated(b: &[u8; 80], before: LiftTransition) -> LiftTransition {
 }
 
 // Kinds 60 to 64, with what is kept.
-pub fn call(b: &[u8; 80], k: Kept) -> Kept {
+pub(crate) fn call(b: &[u8; 80], k: Kept) -> Kept {
     let kind = record::kind(b);
     let before = k.quadplane;
     let quadplane = match kind {

@@ -8,36 +8,51 @@ use numbers::bits::from_le_bytes;
 use numbers::vector::Quaternion;
 use numbers::vector::Vec2;
 use numbers::vector::Vec3;
+ghost use Prim.Native.Nat.{_<_};
 
 // The kind of the call.
-pub fn kind(b: &[u8; 80]) -> u8 {
+pub(crate) fn kind(b: &[u8; 80]) -> u8 {
     b[0]
 }
 
 // The option of the call.
-pub fn option(b: &[u8; 80]) -> u8 {
+pub(crate) fn option(b: &[u8; 80]) -> u8 {
     b[1]
 }
 
-// Number i, any NaN as the NaN; 0 past the end.
-pub fn number(b: &[u8; 80], i: usize) -> f32 {
-    if i >= 20 {
-        return 0.0;
-    }
+// Number i, any NaN as the NaN.
+pub(crate) fn number(b: &[u8; 80], i: usize) -> f32
+    requires { ⌜ i < 20 ⌝ }
+{
     let at = 4 * i;
     from_bits(from_le_bytes(b[at], b[at + 1], b[at + 2], b[at + 3]))
 }
 
 // The vector of two numbers.
-pub fn vec2(b: &[u8; 80], x: usize, y: usize) -> Vec2 {
+pub(crate) fn vec2(b: &[u8; 80], x: usize, y: usize) -> Vec2
+    requires { ⌜ (x < 20) × (y < 20) ⌝ }
+{
     Vec2 {
         x: number(b, x),
         y: number(b, y),
     }
 }
 
+// The vector of two numbers, with z 0.
+pub(crate) fn horizontal(b: &[u8; 80], x: usize, y: usize) -> Vec3
+    requires { ⌜ (x < 20) × (y < 20) ⌝ }
+{
+    Vec3 {
+        x: number(b, x),
+        y: number(b, y),
+        z: 0.0,
+    }
+}
+
 // The vector of three numbers.
-pub fn vec3(b: &[u8; 80], x: usize, y: usize, z: usize) -> Vec3 {
+pub(crate) fn vec3(b: &[u8; 80], x: usize, y: usize, z: usize) -> Vec3
+    requires { ⌜ (x < 20) × (y < 20) × (z < 20) ⌝ }
+{
     Vec3 {
         x: number(b, x),
         y: number(b, y),
@@ -46,7 +61,9 @@ pub fn vec3(b: &[u8; 80], x: usize, y: usize, z: usize) -> Vec3 {
 }
 
 // The quaternion of four numbers.
-pub fn quaternion(b: &[u8; 80], w: usize, x: usize, y: usize, z: usize) -> Quaternion {
+pub(crate) fn quaternion(b: &[u8; 80], w: usize, x: usize, y: usize, z: usize) -> Quaternion
+    requires { ⌜ (w < 20) × (x < 20) × (y < 20) × (z < 20) ⌝ }
+{
     Quaternion {
         w: number(b, w),
         x: number(b, x),
@@ -56,7 +73,9 @@ pub fn quaternion(b: &[u8; 80], w: usize, x: usize, y: usize, z: usize) -> Quate
 }
 
 // The airspeed in number i, where it is present.
-pub fn airspeed(b: &[u8; 80], i: usize, present: bool) -> Airspeed {
+pub(crate) fn airspeed(b: &[u8; 80], i: usize, present: bool) -> Airspeed
+    requires { ⌜ i < 20 ⌝ }
+{
     if present {
         Airspeed::Present(number(b, i))
     } else {
@@ -65,7 +84,7 @@ pub fn airspeed(b: &[u8; 80], i: usize, present: bool) -> Airspeed {
 }
 
 // A vehicle that stands still, level, with no airspeed: what a call of fewer numbers fills in.
-pub fn still() -> VehicleState {
+pub(crate) fn still() -> VehicleState {
     VehicleState {
         z_m: 0.0,
         velocity_mps: Vec3 {
@@ -85,7 +104,7 @@ pub fn still() -> VehicleState {
 }
 
 // What an update is told of the vehicle.
-pub fn vehicle(b: &[u8; 80]) -> VehicleState {
+pub(crate) fn vehicle(b: &[u8; 80]) -> VehicleState {
     VehicleState {
         z_m: number(b, 2),
         velocity_mps: vec3(b, 3, 4, 5),
@@ -96,7 +115,7 @@ pub fn vehicle(b: &[u8; 80]) -> VehicleState {
 }
 
 // What an update requests.
-pub fn requested(b: &[u8; 80]) -> FlightRegime {
+pub(crate) fn requested(b: &[u8; 80]) -> FlightRegime {
     if option(b) % 2 == 1 {
         FlightRegime::Plane
     } else {
@@ -105,7 +124,7 @@ pub fn requested(b: &[u8; 80]) -> FlightRegime {
 }
 
 // The reason of a cut, option 11 to 16.
-pub fn reason(b: &[u8; 80]) -> ModeRefusal {
+pub(crate) fn reason(b: &[u8; 80]) -> ModeRefusal {
     let option = option(b);
     match option {
         11 => ModeRefusal::Unsupported,

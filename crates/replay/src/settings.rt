@@ -10,7 +10,7 @@ use machines::settings::TransitionConfig;
 use machines::settings::Validity;
 
 // The tailsitter's settings, numbers 1 to 17.
-pub fn tailsitter(b: &[u8; 80]) -> TransitionConfig {
+pub(crate) fn tailsitter(b: &[u8; 80]) -> TransitionConfig {
     TransitionConfig {
         forward_rate_radps: number(b, 1),
         forward_done_rad: number(b, 2),
@@ -33,7 +33,7 @@ pub fn tailsitter(b: &[u8; 80]) -> TransitionConfig {
 }
 
 // The quadplane's settings, numbers 1 to 15.
-pub fn quadplane(b: &[u8; 80]) -> LiftTransitionConfig {
+pub(crate) fn quadplane(b: &[u8; 80]) -> LiftTransitionConfig {
     LiftTransitionConfig {
         min_airspeed_mps: number(b, 1),
         lift_ramp_s: number(b, 2),
@@ -54,7 +54,7 @@ pub fn quadplane(b: &[u8; 80]) -> LiftTransitionConfig {
 }
 
 // The split's settings, numbers 1 and 2.
-pub fn split(b: &[u8; 80]) -> ForwardThrustConfig {
+pub(crate) fn split(b: &[u8; 80]) -> ForwardThrustConfig {
     ForwardThrustConfig {
         gain: number(b, 1),
         pitch_limit_rad: number(b, 2),
@@ -110,7 +110,7 @@ fn quadplane_defaults() {
 }
 
 // Kinds 20 to 24.
-pub fn call(b: &[u8; 80]) {
+pub(crate) fn call(b: &[u8; 80]) {
     let kind = record::kind(b);
     match kind {
         20 => validity(tailsitter(b).validate()),

@@ -14,25 +14,25 @@ pub const SPACE: u8 = b' ';
 pub const END: u8 = b'\n';
 
 // A word of text.
-pub fn word(text: &[u8], after: u8) {
+pub(crate) fn word(text: &[u8], after: u8) {
     io::write_all(STDOUT_FILENO, text);
     io::write_all(STDOUT_FILENO, &[after]);
 }
 
 // A number's bits.
-pub fn number(x: f32, after: u8) {
+pub(crate) fn number(x: f32, after: u8) {
     io::print_hex(STDOUT_FILENO, to_bits(x) as u64, 8);
     io::write_all(STDOUT_FILENO, &[after]);
 }
 
 // A count, a field or a report.
-pub fn count(n: u8, after: u8) {
+pub(crate) fn count(n: u8, after: u8) {
     io::print_decimal(STDOUT_FILENO, n as u64);
     io::write_all(STDOUT_FILENO, &[after]);
 }
 
 // A flag, 0 or 1.
-pub fn flag(on: bool, after: u8) {
+pub(crate) fn flag(on: bool, after: u8) {
     if on {
         word(b"1", after);
     } else {
@@ -41,23 +41,23 @@ pub fn flag(on: bool, after: u8) {
 }
 
 // What is none.
-pub fn none(after: u8) {
+pub(crate) fn none(after: u8) {
     word(b"-", after);
 }
 
 // A vector's two numbers.
-pub fn vec2(v: Vec2, after: u8) {
+pub(crate) fn vec2(v: Vec2, after: u8) {
     number(v.x, SPACE);
     number(v.y, after);
 }
 
 // The line of a record that is no call.
-pub fn unknown() {
+pub(crate) fn unknown() {
     word(b"unknown", END);
 }
 
 // The line of a call that is turned down: a setting's has the field too.
-pub fn refused(why: InputRefusal) {
+pub(crate) fn refused(why: InputRefusal) {
     let n = why.number();
     word(b"refused", SPACE);
     if n == 3 {
@@ -106,7 +106,7 @@ fn step(s: TransitionStep) {
 }
 
 // The line of a machine's answer.
-pub fn answer(a: TransitionAnswer) {
+pub(crate) fn answer(a: TransitionAnswer) {
     match a {
         TransitionAnswer::Refused(why) => refused(why),
         TransitionAnswer::Step(s) => step(s),

@@ -49,7 +49,7 @@ fn updated(b: &[u8; 80], before: Transition) -> Transition {
 }
 
 // Kinds 50 to 54, with what is kept.
-pub fn call(b: &[u8; 80], k: Kept) -> Kept {
+pub(crate) fn call(b: &[u8; 80], k: Kept) -> Kept {
     let kind = record::kind(b);
     let before = k.tailsitter;
     let tailsitter = match kind {

@@ -13,7 +13,6 @@ use machines::handoff::ThrustAnswer;
 use machines::handoff::ThrustHandoff;
 use machines::sink::GuardedThrust;
 use machines::sink::guard_sink;
-use numbers::vector::Vec3;
 
 // Kind 30: a new handoff; a refused one leaves the one kept.
 fn new_handoff(b: &[u8; 80], before: ThrustHandoff) -> ThrustHandoff {
@@ -72,11 +71,7 @@ fn new_deceleration() -> BackDeceleration {
 fn moving(b: &[u8; 80]) -> VehicleState {
     let rest = record::still();
     VehicleState {
-        velocity_mps: Vec3 {
-            x: number(b, 2),
-            y: number(b, 3),
-            z: 0.0,
-        },
+        velocity_mps: record::horizontal(b, 2, 3),
         acceleration_mps2: record::vec2(b, 4, 5),
         ..rest
     }
@@ -113,7 +108,7 @@ fn deceleration(b: &[u8; 80], before: BackDeceleration) -> BackDeceleration {
 }
 
 // Kinds 30 to 35.
-pub fn call(b: &[u8; 80], k: Kept) -> Kept {
+pub(crate) fn call(b: &[u8; 80], k: Kept) -> Kept {
     let kind = record::kind(b);
     match kind {
         30..=32 => {

@@ -63,7 +63,7 @@ fn airspeed(b: &[u8; 80]) {
 }
 
 // Kinds 1 to 13.
-pub fn call(b: &[u8; 80]) {
+pub(crate) fn call(b: &[u8; 80]) {
     let kind = record::kind(b);
     match kind {
         1..=3 => show::number(root_or_product(b, kind), END),

@@ -5,6 +5,7 @@ use card::run::run;
 use libc::STDIN_FILENO;
 use libc::STDOUT_FILENO;
 use numbers::bits::from_le_bytes;
+ghost use Rattle.card.specs.Transcript.{Fits};
 
 // The length of the next card; -1 at the end of the list.
 fn next_length() -> isize {
@@ -15,11 +16,16 @@ fn next_length() -> isize {
     from_le_bytes(b[0], b[1], b[2], b[3]) as isize
 }
 
-// The number of bytes that a run wrote, at most 32,000.
-fn written(ran: Ran) -> isize {
+// Writes what a run left at the start of `out`.
+fn print(out: &[u8], ran: Ran)
+    requires { ⌜ Fits ran (now out) ⌝ }
+{
     match ran {
-        Ran::Wrote(n) => { if n <= 32_000 { n as isize } else { 32_000 } }
-        Ran::NoRoom => 0,
+        Ran::Wrote(n) => {
+            io::write_all(STDOUT_FILENO, &out[..n]);
+        }
+        // not met: `run_card` has the room
+        Ran::NoRoom => {}
     }
 }
 
@@ -28,8 +34,7 @@ fn run_card(card: &[u8]) {
     let mut marks = [0u8; 800];
     let mut out = [0u8; 32_000];
     let ran = run(card, &mut marks, &mut out);
-    let n = io::count(written(ran), &out);
-    io::write_all(STDOUT_FILENO, &out[..n]);
+    print(&out, ran);
 }
 
 // Reads a card of that length, and answers whether all of it came.

@@ -2,6 +2,7 @@
 //! argument that this number belongs to, and else NaN. A function that was supplied nothing panics.
 
 use std::cell::{Cell, RefCell};
+use std::thread::LocalKey;
 
 /// A number supplied for an argument.
 #[derive(Clone, Copy)]
@@ -26,17 +27,18 @@ pub fn with_cosines<T>(forward: For, back: For, call: impl FnOnce() -> T) -> T {
 
 /// Runs `call` with the entry tilt at hand.
 pub fn with_tilt<T>(tilt: For, call: impl FnOnce() -> T) -> T {
-    TILT.set(Some(tilt));
-    let answer = call();
-    TILT.take();
-    answer
+    with_one(&TILT, tilt, call)
 }
 
 /// Runs `call` with the tangent for the split at hand.
 pub fn with_tangent<T>(tangent: For, call: impl FnOnce() -> T) -> T {
-    TANGENT.set(Some(tangent));
+    with_one(&TANGENT, tangent, call)
+}
+
+fn with_one<T>(at_hand: &'static LocalKey<Cell<Option<For>>>, supplied: For, call: impl FnOnce() -> T) -> T {
+    at_hand.set(Some(supplied));
     let answer = call();
-    TANGENT.take();
+    at_hand.take();
     answer
 }
 

@@ -2,7 +2,7 @@
 
 use crate::card::{RECORD_BYTES, Record, bits, mode_letter, refused};
 use crate::machine::{Airframe, Machine, Moved, Refusal, goes_through, good_dt, reason};
-use crate::settings::{self, bad_field, defaults};
+use crate::settings::{bad_field, defaults, split_bad_field};
 use nalgebra::UnitQuaternion;
 use stable_flight::guidance::vtol::{ForwardThrust, ForwardThrustConfig, ThrustHandoff};
 use stable_flight::{
@@ -162,10 +162,6 @@ fn split_config(r: &Record) -> ForwardThrustConfig {
         gain: r.number(1),
         pitch_limit_rad: r.number(2),
     }
-}
-
-fn split_bad_field(config: &ForwardThrustConfig) -> u8 {
-    settings::split_bad_field(config.validate())
 }
 
 /// Kinds 20 to 24: the checks of settings, and the default settings.

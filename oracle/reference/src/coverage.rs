@@ -7,7 +7,7 @@ mod rows;
 
 use crate::card::{self, MOST_RECORDS};
 use crate::joined::{Call, Joined, Line};
-use crate::machine::{AIRFRAMES, Airframe, MODES, Moved, Refusal, Step};
+use crate::machine::{AIRFRAMES, Airframe, MODES, Moved, REASONS, Refusal, Step};
 use crate::settings::defaults;
 use crate::track::Track;
 use stable_flight::FlightMode;
@@ -143,7 +143,8 @@ fn required() -> Counts {
     cards::name(&mut counts);
     for airframe in AIRFRAMES {
         let word = airframe_word(airframe);
-        for report in [0, 11, 12, 13, 14, 15, 16] {
+        let reasons = REASONS.map(|(number, _)| number);
+        for report in [0].into_iter().chain(reasons) {
             counts.name(format!("{word}: report {report}"));
         }
         let mut track = Track::new(Joined::new(airframe, &defaults(airframe)).expect("the defaults"));

@@ -143,7 +143,7 @@ pub fn good_dt(dt: f32) -> bool {
 }
 
 /// The reasons of section 10, with their numbers.
-const REASONS: [(u8, ModeRefusal); 6] = [
+pub const REASONS: [(u8, ModeRefusal); 6] = [
     (11, ModeRefusal::Unsupported),
     (12, ModeRefusal::OnGround),
     (13, ModeRefusal::BelowMinAltitude),

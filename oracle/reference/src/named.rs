@@ -3,7 +3,7 @@
 
 use crate::card::{RecordBytes, header_bytes, in_order, record_bytes, step_bytes};
 use crate::machine::{Airframe, Step};
-use crate::settings::{Settings, changed, defaults};
+use crate::settings::{EXAMPLE, Settings, changed, defaults};
 use std::f32::consts::{FRAC_PI_2, PI};
 
 /// A card, and lines of its transcript: each a number from 1 and the words.
@@ -120,9 +120,6 @@ fn tailsitter(handoff_s: f32, forward_thrust: f32, back_thrust: f32) -> Flight {
 
 /// Document 01, section 7: the example.
 fn example() -> Named {
-    let settings = [
-        9.0, 4.0, 15.0, 5.0, 0.0, 2.0, 5.0, 10.0, 2.0, 0.0, 1.0, 0.25, 0.0625, 0.0, 0.75, 0.0, 0.0,
-    ];
     let steps = [
         plane(1.0, 0.5),
         ShortStep {
@@ -144,7 +141,7 @@ fn example() -> Named {
     .map(|step| ShortStep { tilt_rad: 0.0, ..step });
     Named {
         name: "document 01, section 7",
-        card: Flight::new(Airframe::Quadplane, &settings).fly(&steps).card(),
+        card: Flight::new(Airframe::Quadplane, &EXAMPLE).fly(&steps).card(),
         lines: vec![
             (1, "1 C 3F800000 0 0 00000000 00000000"),
             (2, "2 F 3F800000 0 0 3F000000 00000000"),

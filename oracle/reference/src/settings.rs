@@ -2,13 +2,18 @@
 
 use crate::machine::Airframe;
 use stable_flight::controllers::InvalidConfig;
-use stable_flight::guidance::vtol::{LiftTransitionConfig, TransitionConfig};
+use stable_flight::guidance::vtol::{ForwardThrustConfig, LiftTransitionConfig, TransitionConfig};
 
 /// Numbers 1 to 17 of a settings record. The quadplane uses the first 15.
 pub type Settings = [f32; 17];
 
 /// The binary32 nearest to the cosine of the Rust's default done angles, 3F490FDB.
 const DONE_COSINE: f32 = f32::from_bits(0x3F35_04F3);
+
+/// The quadplane's settings of document 01's example, section 7.
+pub const EXAMPLE: Settings = [
+    9.0, 4.0, 15.0, 5.0, 0.0, 2.0, 5.0, 10.0, 2.0, 0.0, 1.0, 0.25, 0.0625, 0.0, 0.75, 0.0, 0.0,
+];
 
 /// From the fields of a configuration of the Rust in their order: their names, the configuration of settings, and its default numbers.
 macro_rules! configuration {
@@ -142,8 +147,8 @@ fn tailsitter_bad_field(s: &Settings) -> u8 {
     }
 }
 
-pub fn split_bad_field(validated: Result<(), InvalidConfig>) -> u8 {
-    position(validated, &SPLIT_FIELDS)
+pub fn split_bad_field(config: &ForwardThrustConfig) -> u8 {
+    position(config.validate(), &SPLIT_FIELDS)
 }
 
 fn position(validated: Result<(), InvalidConfig>, fields: &[&str]) -> u8 {

@@ -235,7 +235,7 @@ mod tests {
     fn clock_and_start_are_the_machine_s() {
         for index in 0..3000 {
             let bytes = flights::card(5, index);
-            let Ok(checked) = card::check(&bytes, &mut [0; 800]) else {
+            let Ok(checked) = card::check(&bytes, &mut [0; card::MOST_RECORDS]) else {
                 continue;
             };
             let mut track = Track::new(card::machine(&bytes, checked.airframe));

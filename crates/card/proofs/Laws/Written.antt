@@ -1,6 +1,6 @@
 -- Laws of writing: a text, and from its end on another. Assumes nothing.
 use mathlib.Core.Path.{_≡_, refl, sym, ap, _∙_}
-use mathlib.Core.List.{List, [], _∷_, _++_}
+use mathlib.Core.List.{List, [], _∷_, _++_, append-assoc}
 use Prim.Native.Nat.{ℕ, suc, _+_, _<_, _≤_}
 use native.Mathlib.Omega.{arith}
 use native.Mathlib.Numerals.{add-one}
@@ -26,13 +26,9 @@ module _ {d d₁ d₂ : List ℕ} {at r₁ r₂ : ℕ} {s t : List ℕ} where
         next = b .next ∙ ap (λ (k : ℕ). k + length t) (a .next) ∙ add-assoc at (length s) (length t) ∙ ap (λ (k : ℕ). at + k) (sym (length-append s t));
       }
 
-seam : (s t : List ℕ) → (s ++ 32 ∷ []) ++ t ≡ s ++ 32 ∷ t
-seam [] t = refl
-seam (a ∷ s) t = ap (λ (l : List ℕ). a ∷ l) (seam s t)
-
 -- a word with a space after it, and then the rest of the line
 pub more : {d d₁ d₂ : List ℕ} {at r₁ r₂ : ℕ} (s : List ℕ) {t : List ℕ} → Written d at (s ++ 32 ∷ []) d₁ r₁ → Written d₁ r₁ t d₂ r₂ → Written d at (s ++ 32 ∷ t) d₂ r₂
-more s {t} u v = rw (← seam s t) (both u v)
+more s {t} u v = rw (← append-assoc s (32 ∷ []) t) (both u v)
 
 -- one byte more of a text
 pub byte : (d : List ℕ) (at : ℕ) (s : List ℕ) (i : ℕ) {d′ : List ℕ} → i < length s → d′ ≡ sets d at (take i s)

@@ -2,7 +2,7 @@
 -- answer and state, call by call.
 -- By induction on the list: each contract gives the call's answer and state from the state that it finds. Assumes nothing.
 use mathlib.Core.Path.{_≡_, refl, sym, _∙_, ap, subst}
-use mathlib.Core.List.{List, [], _∷_}
+use mathlib.Core.List.{List, [], _∷_, map}
 use Rattle.joined.specs.declared.answer.Answer.{Answer}
 use Rattle.joined.specs.declared.joined.Joined.{Joined}
 use Rattle.joined.specs.declared.joined.JoinedUpdate.{JoinedUpdate}
@@ -32,8 +32,7 @@ Chain j (t ∷ ts) (r ∷ rs) = Link (Stands j rs) t r × Chain j ts rs
 
 -- their answers
 abbrev pub answersIn : List JoinedUpdate → List Answer
-answersIn [] = []
-answersIn (r ∷ rs) = r .answer ∷ answersIn rs
+answersIn rs = map (λ r. r .answer) rs
 
 -- ---- the proof
 link : (j : Joined) (t : Taken) (r : JoinedUpdate) → Link j t r → r ≡ callOf j (callIn t)

@@ -83,13 +83,13 @@ module _ {M : Type 1} (𝓥 : URA M) (K : Heap 𝓥) (B : Atoms 𝓥) (L : Given
       nothing ! $ use0 L (‵ (I .own i (u ∷ []))) had $ join ! $ move ! (2 ∷ 0 ∷ []) $ join ! $ nothing ! $ move ! (2 ∷ 0 ∷ []) $ join ! $ join ! $ frame ! $ done !))
 
 -- ---- this entry, in the closed model
-abbrev A : Atoms 𝓤
+abbrev pub A : Atoms 𝓤
 A = ghost₀ .A
 
 abbrev W : Given 𝓤 H A
 W = givenOf 𝓤 H model ghost₀
 
-abbrev 𝓡 : Running 𝓤 H model
+abbrev pub 𝓡 : Running 𝓤 H model
 𝓡 = real 𝓤 H model
 
 -- the state j has a machine value of its type

@@ -4,7 +4,7 @@
 use mathlib.Core.Path.{_≡_, refl, sym, _∙_, ap, subst}
 use mathlib.Core.Logic.{∥∥₁-prop, ∥∥₁-elim, ∥∥₁-map}
 use mathlib.Core.HLevel.{×-prop}
-use mathlib.Core.List.{List, [], _∷_, _++_, List·isSet}
+use mathlib.Core.List.{List, [], _∷_, _++_, List·isSet, map}
 use mathlib.Core.Option.{some, Option·some-injective}
 use Prim.Native.Nat.{ℕ}
 use lib.ListN.{length}
@@ -29,7 +29,7 @@ use Rattle.joined.proofs.Laws.History.{after-append}
 use Rattle.joined.proofs.Laws.Taken.{Taken, callsIn}
 use Rattle.joined.proofs.Laws.Values.{input-value, state, answer}
 use Rattle.joined.proofs.Laws.InPlace.{Holds, IsState, in-one, held, some-memory, kept}
-use Rattle.joined.proofs.Laws.Runs.{Made, Ran, values, runs, made-state, state-after, every-list-runs}
+use Rattle.joined.proofs.Laws.Runs.{Made, Ran, values, runs, made-state, state-after, every-list-runs, Told, told-prop}
 use Rattle.joined.proofs.joined.Joined.Laws as J′
 use Rattle.joined.proofs.joined.Joined.enter.Symbol as enter-def
 
@@ -37,8 +37,7 @@ use Rattle.joined.proofs.joined.Joined.enter.Symbol as enter-def
 
 -- the calls of document 01 that the steps are
 abbrev pub stepsIn : List StepInput → List Call
-stepsIn [] = []
-stepsIn (i ∷ is) = call.Step i ∷ stepsIn is
+stepsIn is = map (λ i. call.Step i) is
 
 -- from the memory σ on, `enter` was called on the record at (b, o) for each of the steps, each time in the memory that the call before left; the last step stands first
 abbrev pub EntryRan : ℕ → ℕ → Memory → List StepInput → List Val → Memory → Type 0
@@ -77,20 +76,14 @@ every-entry-runs b o j (i ∷ is) g σ F s =
     ∥∥₁-map (in-one b o (after j (stepsIn is)) i (g .0) (d .1) F (d .3)) (λ t. (t .1 ∷ d .0, t .2, (d .1, d .2, (t .0, t .3)), t .5)))
 
 -- ---- on a record that was made, and holds the state j
-abbrev ToldIn : Joined → List StepInput → List Val → Val → Type 0
-ToldIn j is vs v = (vs ≡ values (answersOf j (stepsIn is))) × (v ≡ state (after j (stepsIn is)))
-
-told-in-prop : (j : Joined) (is : List StepInput) (vs : List Val) (v : Val) → IsProp (ToldIn j is vs v)
-told-in-prop j is vs v = ×-prop (List·isSet Val-set vs (values (answersOf j (stepsIn is)))) (Val-set v (state (after j (stepsIn is))))
-
-in-made : (j : Joined) → IsState j → (is : List StepInput) → Binary32Calls (stepsIn is) → (vs : List Val) (v : Val) → RanInRecord (state j) is vs v → ToldIn j is vs v
+in-made : (j : Joined) → IsState j → (is : List StepInput) → Binary32Calls (stepsIn is) → (vs : List Val) (v : Val) → RanInRecord (state j) is vs v → Told j (stepsIn is) vs v
 in-made j now is g vs v h =
     let b : ℕ = length (h .0) in
     let F : SProp 𝓤 = H .dies J′.mir b in
     let k : Joined = after j (stepsIn is) in
-    ∥∥₁-elim (kept (h .0) j now (h .1) (h .3)) (told-in-prop j is vs v) (λ s.
-    ∥∥₁-elim (in-every b 0 j is g (h .1) (h .2) vs F s (h .4)) (told-in-prop j is vs v) (λ d.
-    ∥∥₁-elim (held b 0 k (h .2) F (d .1)) (told-in-prop j is vs v) (λ w. (d .0, Option·some-injective v (state k) (sym (h .5) ∙ w .0)))))
+    ∥∥₁-elim (kept (h .0) j now (h .1) (h .3)) (told-prop j (stepsIn is) vs v) (λ s.
+    ∥∥₁-elim (in-every b 0 j is g (h .1) (h .2) vs F s (h .4)) (told-prop j (stepsIn is) vs v) (λ d.
+    ∥∥₁-elim (held b 0 k (h .2) F (d .1)) (told-prop j (stepsIn is) vs v) (λ w. (d .0, Option·some-injective v (state k) (sym (h .5) ∙ w .0)))))
 
 -- the state after the calls ts has a machine value of its type
 state-of : (a : Airframe) (s : Settings) → Binary32Settings s → (j : Joined) → newOf a s ≡ new.Joined j → (ts : List Taken) → Binary32Calls (callsIn ts)
@@ -105,7 +98,7 @@ pub runs-in-record : (a : Airframe) (s : Settings) → Binary32Settings s → (j
 runs-in-record a s g j m ts gs us w h is gi vs v r =
     let d = runs a s g j m ts gs us w h in
     let k : Joined = after j (callsIn ts) in
-    ∥∥₁-elim (state-of a s g j (d .0) ts gs) (told-in-prop k is vs v) (λ now. in-made k now is gi vs v (subst (λ (x : Val). RanInRecord x is vs v) (d .2) r))
+    ∥∥₁-elim (state-of a s g j (d .0) ts gs) (told-prop k (stepsIn is) vs v) (λ now. in-made k now is gi vs v (subst (λ (x : Val). RanInRecord x is vs v) (d .2) r))
 
 -- ---- and there are such runs
 pub every-record-runs : (a : Airframe) (s : Settings) → Binary32Settings s → (j : Joined) → newOf a s ≡ new.Joined j → (ts : List Taken) → Binary32Calls (callsIn ts)

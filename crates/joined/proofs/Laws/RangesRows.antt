@@ -4,12 +4,13 @@ use mathlib.Core.Path.{subst}
 use mathlib.Core.Bool.{Bool, true, false, not, _||_}
 use lib.Dec.{T, T-not}
 use lib.Ieee.{Float, nan, inf, fin, ofBits, lt, le}
+use Rattle.numbers.proofs.Laws.Choices.{if-cases}
 use Rattle.numbers.specs.Numbers.{if_then_else_, _⊕_, _⊖_, zero32, finite}
 use Rattle.numbers.proofs.Laws.Order.{number, le-trans-number, le-number-right, le-top, not-lt→le}
 use Rattle.numbers.proofs.Laws.Units.{Amount}
 use Rattle.numbers.proofs.Laws.Operations.{add-gives}
 use Rattle.numbers.proofs.Laws.Ranged.{Positive, positive-amount, zero-amount, below-finite}
-use Rattle.numbers.proofs.Laws.Rounding.{above-zero, sum-above}
+use Rattle.numbers.proofs.Laws.Rounding.{above-zero, sum-above, amount-number}
 use Rattle.numbers.proofs.Laws.Clock.{infinity-minus}
 use Rattle.machines.specs.declared.FlightMode.{FlightMode}
 use Rattle.machines.specs.declared.FlightMode.the-variants as mode
@@ -24,7 +25,6 @@ use Rattle.machines.specs.declared.rows.TransitionState.{TransitionState}
 use Rattle.machines.specs.declared.rows.Moved.{Moved}
 use Rattle.machines.specs.Gate.{forwardRefusalOf, floorTrips}
 use Rattle.machines.specs.Rows.{primedState, reporting, inMode, entering, abandon, clockAfter, plain, enters, handsOver, enterUnless, finish, resumeUnless, Found, rowOf, cutIn, cutOf}
-use Rattle.joined.proofs.Laws.RangesThrust.{if-cases}
 
 -- ---- tests that failed
 -- the second of two
@@ -32,12 +32,7 @@ pub or-failed : (a b : Bool) → T (not (a || b)) → T (not b)
 or-failed true b t = absurd t
 or-failed false b t = t
 
--- ---- amounts
--- they are numbers
-pub amount-number : (x : Float) → Amount x → T (number x)
-amount-number x p = le-number-right zero32 x (above-zero x p)
-
--- a clock that is not past a bound is within it
+-- ---- a clock that is not past a bound is within it
 pub in-bound : (clock bound : Float) → Amount clock → Positive bound → T (not (lt bound clock)) → T (le clock bound)
 in-bound clock bound p q h = not-lt→le bound clock (amount-number bound (positive-amount bound q)) (amount-number clock p) h
 

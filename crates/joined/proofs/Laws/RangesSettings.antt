@@ -7,9 +7,9 @@ use Prim.Native.Nat.{ℕ, suc}
 use lib.Dec.{T}
 use lib.Ieee.{Float, binary32, fits, lt, le}
 use lib.Ieee.Fits.{and-l, and-r}
-use Rattle.numbers.specs.Numbers.{zero32, halfPi32}
+use Rattle.numbers.specs.Numbers.{zero32, halfPi32, IsBinary32, one32}
 use Rattle.numbers.specs.Ranges.{limit, positive, unit, unitAboveZero, quarterTurn, quarterTurnClosed, halfTurn}
-use Rattle.numbers.proofs.Laws.Ranged.{Limit, Positive, Share, is-limit, is-positive, is-share}
+use Rattle.numbers.proofs.Laws.Ranged.{Limit, Positive, Share, is-limit, is-positive, is-up-to}
 use Rattle.machines.specs.declared.settings.Validity.{Validity}
 use Rattle.machines.specs.declared.settings.Validity.the-variants.{Valid, Bad}
 use Rattle.machines.specs.declared.settings.TransitionConfig.{TransitionConfig}
@@ -17,7 +17,7 @@ use Rattle.machines.specs.declared.settings.LiftTransitionConfig.{LiftTransitio
 use Rattle.machines.specs.Settings.{_field_is_, transitionValidity, liftValidity}
 use Rattle.joined.specs.declared.settings.Settings.{Settings}
 use Rattle.joined.specs.Machine.{transitionConfigOf, liftTransitionConfigOf}
-use Rattle.joined.specs.List.{IsBinary32, Binary32Settings}
+use Rattle.joined.specs.List.{Binary32Settings}
 
 -- ---- a list of tests
 -- the verdict on fields n and on, after v on those before
@@ -88,8 +88,8 @@ tailsitter-settings s h e =
       timeout = is-positive (s .n7) (h .6) t7;
       min-height = is-limit (s .n8) (h .7) t8;
       plane-min-height = is-limit (s .n9) (h .8) t9;
-      forward-thrust = is-share (s .n10) (h .9) t10;
-      back-thrust = is-share (s .n11) (h .10) t11;
+      forward-thrust = is-up-to one32 (s .n10) (h .9) t10;
+      back-thrust = is-up-to one32 (s .n11) (h .10) t11;
       handoff = is-limit (s .n14) (h .13) t14;
     }
 

@@ -4,7 +4,7 @@ use mathlib.Core.Bool.{Bool, true, false, not, _&&_}
 use lib.Dec.{T}
 use lib.Ieee.{Float, binary32, lt, isNan}
 use lib.Ieee.Fits.{add-fits}
-use Rattle.numbers.specs.Numbers.{if_then_else_, _⊕_, _⊗_, zero32, one32, clampOf}
+use Rattle.numbers.specs.Numbers.{if_then_else_, _⊕_, _⊗_, zero32, one32, clampOf, IsBinary32}
 use Rattle.numbers.specs.Ranges.{positive}
 use Rattle.numbers.specs.Saturation.{throttleOf}
 use Rattle.numbers.proofs.Laws.Order.{le-lt-trans}
@@ -12,7 +12,7 @@ use Rattle.numbers.proofs.Laws.Units.{Amount}
 use Rattle.numbers.proofs.Laws.Operations.{add-gives}
 use Rattle.numbers.proofs.Laws.Ranged.{Limit, Positive, Share, is-positive, limit-amount, positive-amount, zero-amount, one-amount, one-above}
 use Rattle.numbers.proofs.Laws.Rounding.{above-zero}
-use Rattle.numbers.proofs.Laws.Choices.{clamp-in, clamp-holds}
+use Rattle.numbers.proofs.Laws.Choices.{clamp-in, clamp-holds, if-cases}
 use Rattle.numbers.proofs.Laws.Blend.{blend}
 use Rattle.numbers.proofs.Laws.Tilt.{progress}
 use Rattle.machines.specs.declared.FlightMode.{FlightMode}
@@ -28,13 +28,7 @@ use Rattle.machines.specs.Thrust.{newHandoff, startOf, activeOf, later, weightO
 use Rattle.joined.specs.declared.call.StepInput.{StepInput}
 use Rattle.joined.specs.declared.thrust.Thrusted.{Thrusted}
 use Rattle.joined.specs.Joined.{blended, blendedIf, guardedOr, backThrust, tailsitterThrust}
-use Rattle.joined.specs.List.{IsBinary32}
 use Rattle.joined.proofs.Laws.RangesSettings.{TailsitterSettings}
-
--- what holds of each branch under its test holds of the choice
-pub if-cases : {A : Type 0} (P : A → Type 0) (b : Bool) (x y : A) → (T b → P x) → (T (not b) → P y) → P (if b then x else y)
-if-cases P true x y p q = p tt
-if-cases P false x y p q = q tt
 
 -- ---- a throttle
 -- 0 is a share

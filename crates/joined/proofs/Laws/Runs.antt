@@ -5,7 +5,7 @@
 use mathlib.Core.Path.{_≡_, refl, sym, _∙_, ap, subst}
 use mathlib.Core.Logic.{∥∥₁-prop, ∥∥₁-elim, ∥∥₁-map}
 use mathlib.Core.HLevel.{×-prop}
-use mathlib.Core.List.{List, [], _∷_, List·isSet}
+use mathlib.Core.List.{List, [], _∷_, List·isSet, map}
 use mathlib.Core.Option.{some, Option·some-injective}
 use Prim.Native.Nat.{ℕ}
 use lib.ListN.{length}
@@ -40,7 +40,7 @@ use Rattle.joined.specs.List.{Binary32Settings, Binary32Step, Binary32Ca
 use Rattle.joined.proofs.Laws.Taken.{Taken, by-value, through-entry, callIn, callsIn}
 use Rattle.joined.proofs.Laws.Values.{airframe-value, settings-value, input-value, call-value, state, made, answer, settings-is, call-is, airframe-is}
 use Rattle.joined.proofs.Laws.Returned.{returned, any}
-use Rattle.joined.proofs.Laws.InPlace.{Holds, IsState, in-one, puts, held, some-memory, kept}
+use Rattle.joined.proofs.Laws.InPlace.{Holds, IsState, in-one, puts, held, some-memory, kept, A, 𝓡}
 use Rattle.joined.proofs.Laws.Read.{part, made-joined}
 use Rattle.joined.proofs.settings.Settings as G
 use Rattle.joined.proofs.settings.Settings.Laws as G′
@@ -99,16 +99,9 @@ Made a s j = (σ : Memory) × MadeIn σ a s j
 
 -- the machine values of answers
 abbrev pub values : List Answer → List Val
-values [] = []
-values (a ∷ answers) = answer a ∷ values answers
+values answers = map answer answers
 
 -- ---- one call, by its theorem
-abbrev A : Atoms 𝓤
-A = ghost₀ .A
-
-abbrev 𝓡 : Running 𝓤 H model
-𝓡 = real 𝓤 H model
-
 -- the routine of `call`, in the memory σ, returns document 01's update
 abbrev Returns : Joined → Call → Memory → Type 0
 Returns j c σ =
@@ -169,18 +162,18 @@ state-after j is [] g = ∣ is ∣₁
 state-after j is (c ∷ cs) g = ∥∥₁-elim (state-after j is cs (g .1)) ∥∥₁-prop (λ now. ∥∥₁-map (call-returns (after j cs) now c (g .0) []) (returned-state (after j cs) c []))
 
 -- ---- a list of calls, from a state
-abbrev Told : Joined → List Taken → List Val → Val → Type 0
-Told j ts us v = (us ≡ values (answersOf j (callsIn ts))) × (v ≡ state (after j (callsIn ts)))
+abbrev pub Told : Joined → List Call → List Val → Val → Type 0
+Told j cs us v = (us ≡ values (answersOf j cs)) × (v ≡ state (after j cs))
 
-told-prop : (j : Joined) (ts : List Taken) (us : List Val) (v : Val) → IsProp (Told j ts us v)
-told-prop j ts us v = ×-prop (List·isSet Val-set us (values (answersOf j (callsIn ts)))) (Val-set v (state (after j (callsIn ts))))
+pub told-prop : (j : Joined) (cs : List Call) (us : List Val) (v : Val) → IsProp (Told j cs us v)
+told-prop j cs us v = ×-prop (List·isSet Val-set us (values (answersOf j cs))) (Val-set v (state (after j cs)))
 
-from-state : (j : Joined) → IsState j → (ts : List Taken) → Binary32Calls (callsIn ts) → (us : List Val) (v : Val) → Ran (state j) ts us v → Told j ts us v
+from-state : (j : Joined) → IsState j → (ts : List Taken) → Binary32Calls (callsIn ts) → (us : List Val) (v : Val) → Ran (state j) ts us v → Told j (callsIn ts) us v
 from-state j is [] g [] v h = (refl, sym h)
 from-state j is [] g (a ∷ us) v h = absurd h
 from-state j is (t ∷ ts) g [] v h = absurd h
-from-state j is (t ∷ ts) g (a ∷ us) v h = ∥∥₁-elim (state-after j is (callsIn ts) (g .1)) (told-prop j (t ∷ ts) (a ∷ us) v) (λ now.
-    let told : Told j ts us (h .0) = from-state j is ts (g .1) us (h .0) (h .1) in
+from-state j is (t ∷ ts) g (a ∷ us) v h = ∥∥₁-elim (state-after j is (callsIn ts) (g .1)) (told-prop j (callsIn (t ∷ ts)) (a ∷ us) v) (λ now.
+    let told : Told j (callsIn ts) us (h .0) = from-state j is ts (g .1) us (h .0) (h .1) in
     let last : Right (callOf (after j (callsIn ts)) (callIn t)) a v = right (after j (callsIn ts)) now t (g .0) a v (subst (λ (w : Val). Did t w a v) (told .1) (h .2)) in
     (ap (λ (x : Val). x ∷ us) (last .0) ∙ ap (λ (l : List Val). answer (callOf (after j (callsIn ts)) (callIn t) .answer) ∷ l) (told .0), last .1))
 
@@ -218,7 +211,7 @@ pub runs : (a : Airframe) (s : Settings) → Binary32Settings s → (j : Joined)
     → (newOf a s ≡ new.Joined j) × (us ≡ values (answersOf j (callsIn ts))) × (v ≡ state (after j (callsIn ts)))
 runs a s g j m ts gs us v h =
     let e : newOf a s ≡ new.Joined j = made-right a s g j m in
-    let told : Told j ts us v = ∥∥₁-elim (made-state a s g j e) (told-prop j ts us v) (λ is. from-state j is ts gs us v h) in
+    let told : Told j (callsIn ts) us v = ∥∥₁-elim (made-state a s g j e) (told-prop j (callsIn ts) us v) (λ is. from-state j is ts gs us v h) in
     (e, told .0, told .1)
 
 -- ---- and the functions do return, from any memory

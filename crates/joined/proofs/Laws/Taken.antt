@@ -1,5 +1,5 @@
 -- The calls of a list, by the way they are made. Definitions only. Assumes nothing.
-use mathlib.Core.List.{List, [], _∷_}
+use mathlib.Core.List.{List, [], _∷_, map}
 use Rattle.joined.specs.declared.call.StepInput.{StepInput}
 use Rattle.joined.specs.declared.call.Call.{Call}
 use Rattle.joined.specs.declared.call.Call.the-variants as call
@@ -15,5 +15,4 @@ callIn (by-value c) = c
 callIn (through-entry i) = call.Step i
 
 abbrev pub callsIn : List Taken → List Call
-callsIn [] = []
-callsIn (t ∷ ts) = callIn t ∷ callsIn ts
+callsIn ts = map callIn ts

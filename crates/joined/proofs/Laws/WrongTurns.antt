@@ -2,11 +2,12 @@
 -- Assumes nothing.
 use mathlib.Core.Path.{_≡_, refl, _∙_, ap}
 use mathlib.Core.Bool.{Bool, true, false, or-true}
-use mathlib.Core.List.{List, [], _∷_}
+use mathlib.Core.List.{List, [], _∷_, map}
 use mathlib.Core.Option.{Option, some, none}
 use Prim.Native.Nat.{ℕ}
 use lib.Dec.{eqb}
 use lib.Ieee.{Float, ofBits, toBits, add, sub, mul, div, lt, le, eq, neg, isNan}
+use Rattle.numbers.proofs.Laws.Examples.{minus-zero, clamps}
 use Rattle.numbers.specs.Numbers.{if_then_else_, _⊕_, floatOf, zero32, one32, threeTenths32, clampOf}
 use Rattle.numbers.specs.Ranges.{positive}
 use Rattle.numbers.specs.Root.{rootOf}
@@ -26,6 +27,7 @@ use Rattle.machines.specs.Refusals.{reportOf}
 use Rattle.machines.specs.Rows.{Found, rowIn, reporting, begin, finish, resumeUnless, toCopterRow}
 use Rattle.machines.specs.Rows as rows
 use Rattle.machines.specs.Thrust.{activeOf}
+use Rattle.machines.proofs.Laws.Edges.{five}
 use Rattle.joined.specs.declared.settings.Settings.{Settings}
 use Rattle.joined.specs.declared.call.StepInput.{StepInput}
 use Rattle.joined.specs.declared.call.Call.{Call}
@@ -41,12 +43,9 @@ use Rattle.joined.specs.Joined.{newOf, stepOf, cutOf}
 use Rattle.joined.specs.Shown.{Shown, refused, line, shownOf}
 use Rattle.joined.specs.List.{modeAt, abandonmentAt, clockAt}
 use Rattle.joined.proofs.Laws.Effects.{foundIn, badTilt}
-use Rattle.joined.proofs.Laws.Starred.{half, four, five, ten, twelve, fifteen, above-fifteen}
-use Rattle.joined.proofs.Laws.Starred.{C, P, F, B, brief, briefs, shownFrom, flight, defaults, changed, step, level, prime, plane, settings, flying}
+use Rattle.joined.proofs.Laws.Starred.{half, four, ten, twelve, fifteen, above-fifteen}
+use Rattle.joined.proofs.Laws.Starred.{C, P, F, B, briefly, brief, shownFrom, flight, defaults, changed, step, level, prime, plane, settings, flying}
 use Rattle.joined.proofs.Laws.Starred.{Accepted, Forward, Underway, joined, tell, row, times-out}
-
-abbrev pub minus-zero : Float
-minus-zero = floatOf 0x8000_0000
 
 -- the standing report
 abbrev pub reportAt : Joined → MaybeRefusal
@@ -66,10 +65,6 @@ abbrev pub thrustIn : Shown → Option ℕ
 thrustIn (refused n field) = none
 thrustIn (line letter output handoff report thrust pitch) = some thrust
 
-abbrev pub thrusts : List Shown → List (Option ℕ)
-thrusts [] = []
-thrusts (x ∷ xs) = thrustIn x ∷ thrusts xs
-
 -- the example's settings, with a floor of 5
 abbrev pub floored : Settings
 floored = changed (λ i x. if eqb i 5 then five else x) settings
@@ -88,7 +83,7 @@ pub record ShutOut : Type 0 where
       ≡ some (C, 0, 0) ∷ some (F, 0, 0) ∷ some (F, 0, 0) ∷ some (P, 1, 0) ∷ [])
   -- "clearing abandonment on a Copter request in ToCopter": no step that finds ToCopter touches it; and a later Plane request still reports it
   pub abandonment-kept : ((j : Joined) (i : StepInput) → modeAt j ≡ mode.ToCopter → abandonmentAt (stepOf j i .joined) ≡ abandonmentAt j)
-      × (briefs (shownFrom (newOf airframe.Quadplane floored)
+      × (map briefly (shownFrom (newOf airframe.Quadplane floored)
       (prime ∷ flying one32 regime.Plane airspeed.Absent zero32 ∷ flying one32 regime.Plane (airspeed.Present twelve) zero32 ∷ flying four regime.Plane airspeed.Absent zero32
       ∷ low regime.Plane ∷ low regime.Copter ∷ low regime.Plane ∷ []))
       ≡ some (C, 0, 0) ∷ some (F, 0, 0) ∷ some (F, 0, 0) ∷ some (P, 1, 0) ∷ some (B, 0, 16) ∷ some (B, 0, 0) ∷ some (B, 0, 16) ∷ [])
@@ -102,7 +97,7 @@ pub record ShutOut : Type 0 where
   pub minus-zero-passes : (clampOf minus-zero zero32 one32 ≡ minus-zero) × (clampOf minus-zero zero32 threeTenths32 ≡ minus-zero)
       × ((j : Joined) (i : StepInput) → modeAt j ≡ mode.Copter → Accepted j i → i .requested ≡ regime.Copter → activeOf (j .handoff) ≡ false → i .demand ≡ minus-zero
       → thrustIn (shownOf (stepOf j i .answer)) ≡ some 0x8000_0000)
-      × ((a : Airframe) → thrusts (shownFrom (newOf a (defaults a)) (prime ∷ step one32 regime.Copter zero32 zero32 level airspeed.Absent minus-zero ∷ []))
+      × ((a : Airframe) → map thrustIn (shownFrom (newOf a (defaults a)) (prime ∷ step one32 regime.Copter zero32 zero32 level airspeed.Absent minus-zero ∷ []))
       ≡ some 0x0000_0000 ∷ some 0x8000_0000 ∷ [])
   -- "taking dt after the tests": with a timeout of 15 and the clock at 0, a step of the next float up ends the transition, forward (where it is not complete) and back
   pub dt-first : ((j : Joined) (i : StepInput) → Underway j i → clockAt j ≡ zero32 → i .dt ≡ above-fifteen → brief (stepOf j i .answer) ≡ some (C, 0, 14))
@@ -177,7 +172,7 @@ keeps : (j : Joined) (i : StepInput) → modeAt j ≡ mode.ToCopter → abandonm
 keeps j i at =
     step-keeps (j .machine) (j .handoff) (j .deceleration) (j .thrust) i (positive (i .dt)) (badTilt (j .machine) i) (pastRollLimitOf (j .machine) (i .«bank_rad»)) refl refl refl at
 
-flown-floored : briefs (shownFrom (newOf airframe.Quadplane floored)
+flown-floored : map briefly (shownFrom (newOf airframe.Quadplane floored)
     (prime ∷ flying one32 regime.Plane airspeed.Absent zero32 ∷ flying one32 regime.Plane (airspeed.Present twelve) zero32 ∷ flying four regime.Plane airspeed.Absent zero32
     ∷ low regime.Plane ∷ low regime.Copter ∷ low regime.Plane ∷ []))
     ≡ some (C, 0, 0) ∷ some (F, 0, 0) ∷ some (F, 0, 0) ∷ some (P, 1, 0) ∷ some (B, 0, 16) ∷ some (B, 0, 0) ∷ some (B, 0, 16) ∷ []
@@ -185,17 +180,13 @@ unfolding ofBits toBits add sub mul div lt le eq neg isNan rootOf
 flown-floored = refl
 
 -- ---- -0
-clamps : (clampOf minus-zero zero32 one32 ≡ minus-zero) × (clampOf minus-zero zero32 threeTenths32 ≡ minus-zero)
-unfolding ofBits lt
-clamps = (refl, refl)
-
 minus-zero-thrust : (m : Machine) (h : ThrustHandoff) (d : BackDeceleration) (t : Float) (i : StepInput) → stateIn m .mode ≡ mode.Copter → positive (i .dt) ≡ true
     → badTilt m i ≡ false → i .requested ≡ regime.Copter → activeOf h ≡ false → i .demand ≡ minus-zero → thrustIn (shownOf (stepOf (joined m h d t) i .answer)) ≡ some 0x8000_0000
 unfolding ofBits toBits lt isNan
 minus-zero-thrust (machine.Tailsitter m) h d t i at p k asked off is = simp (p, k, at, asked, off, is)
 minus-zero-thrust (machine.Quadplane m) h d t i at p k asked off is = simp (p, at, asked, off, is)
 
-flown-minus-zero : (a : Airframe) → thrusts (shownFrom (newOf a (defaults a)) (prime ∷ step one32 regime.Copter zero32 zero32 level airspeed.Absent minus-zero ∷ []))
+flown-minus-zero : (a : Airframe) → map thrustIn (shownFrom (newOf a (defaults a)) (prime ∷ step one32 regime.Copter zero32 zero32 level airspeed.Absent minus-zero ∷ []))
     ≡ some 0x0000_0000 ∷ some 0x8000_0000 ∷ []
 unfolding ofBits toBits add sub mul div lt le eq neg isNan rootOf
 flown-minus-zero airframe.Tailsitter = refl
@@ -233,7 +224,7 @@ shut-out = record {
   );
   minus-zero-passes = (
     clamps .0,
-    clamps .1,
+    clamps .2,
     λ j i at a asked off is. minus-zero-thrust (j .machine) (j .handoff) (j .deceleration) (j .thrust) i at (a .time) (a .tilt) asked off is,
     flown-minus-zero,
   );

@@ -13,7 +13,7 @@ use lib.Ieee.{Float, nan, inf, fin, binary32, ofBits, fits, lt, le, sub}
 use lib.Ieee.Bits.{ofBits-fits}
 use lib.Ieee.Positive.{num, den, den-pos}
 use Rattle.numbers.specs.Nearest.{units}
-use Rattle.numbers.specs.Numbers.{_⊕_, _⊖_, zero32, floatOf, finite}
+use Rattle.numbers.specs.Numbers.{_⊕_, _⊖_, zero32, tick32, longest32, floatOf, finite}
 use Rattle.numbers.proofs.Laws.Order.{le-trans-number}
 use Rattle.numbers.proofs.Laws.Units.{Amount, le→units, units-exact, finite-of-units, units-of-finite}
 use Rattle.numbers.proofs.Laws.Rounded.{rnd, rnd-exact, rnd-own, rnd-above, rnd-strict}
@@ -21,19 +21,11 @@ use Rattle.numbers.proofs.Laws.Operations.{add-gives, sub-gives, amount
 use Rattle.numbers.proofs.Laws.Ranged.{Limit, limit-amount, lt→units}
 use Rattle.numbers.proofs.Laws.Rounding.{sum-units}
 
--- 1/1024
-abbrev pub tick : Float
-tick = floatOf 0x3A80_0000
-
--- 16,384
-abbrev pub longest : Float
-longest = floatOf 0x4680_0000
-
-tick-units : units tick ≡ 2 ^ 139
+tick-units : units tick32 ≡ 2 ^ 139
 unfolding units ofBits
 tick-units = refl
 
-longest-units : units longest ≡ 2 ^ 163
+longest-units : units longest32 ≡ 2 ^ 163
 unfolding units ofBits
 longest-units = refl
 
@@ -56,17 +48,17 @@ ticks-own k h =
 -- a binary32 number that is 1/1024 or more
 pub record Step (dt : Float) : Type 0 where
   pub held : T (fits binary32 dt)
-  pub enough : T (le tick dt)
+  pub enough : T (le tick32 dt)
 
-tick-above : T (le zero32 tick)
+tick-above : T (le zero32 tick32)
 unfolding le ofBits
 tick-above = tt
 
 pub step-amount : (dt : Float) → Step dt → Amount dt
-step-amount dt s = amount dt (s .held) (le-trans-number zero32 tick dt tick-above (s .enough))
+step-amount dt s = amount dt (s .held) (le-trans-number zero32 tick32 dt tick-above (s .enough))
 
 step-units : (dt : Float) → Step dt → 2 ^ 139 ≤ units dt
-step-units dt s = subst (λ (x : ℕ). x ≤ units dt) tick-units (le→units tick dt (amount tick (ofBits-fits binary32 0x3A80_0000) tick-above) (step-amount dt s) (s .enough))
+step-units dt s = subst (λ (x : ℕ). x ≤ units dt) tick-units (le→units tick32 dt (amount tick32 (ofBits-fits binary32 0x3A80_0000) tick-above) (step-amount dt s) (s .enough))
 
 -- ---- the clock c has reached k/1024 s, or 16,384 s
 abbrev pub Reached : ℕ → Float → Type 0
@@ -121,14 +113,14 @@ uncapped k w p u h l =
     ]
 
 -- ---- the bounds on the number of steps
-longest-amount : Amount longest
-longest-amount = amount longest (ofBits-fits binary32 0x4680_0000) (unfold le ofBits in tt)
+longest-amount : Amount longest32
+longest-amount = amount longest32 (ofBits-fits binary32 0x4680_0000) (unfold le ofBits in tt)
 
 -- a clock c that is at most `bound`, below 16,384 s, has taken 1024 · bound steps at most
-pub steps-within : (k : ℕ) (c bound : Float) → Amount c → Limit bound → Reached k c → T (le c bound) → T (lt bound longest) → k * den bound ≤ 1024 * num bound
+pub steps-within : (k : ℕ) (c bound : Float) → Amount c → Limit bound → Reached k c → T (le c bound) → T (lt bound longest32) → k * den bound ≤ 1024 * num bound
 steps-within k c bound p q r h l =
     let Q = limit-amount bound q in
-    let b : units bound < 2 ^ 163 = subst (λ (x : ℕ). units bound < x) longest-units (lt→units bound longest Q longest-amount l) in
+    let b : units bound < 2 ^ 163 = subst (λ (x : ℕ). units bound < x) longest-units (lt→units bound longest32 Q longest-amount l) in
     ticks-le k (num bound) (den bound) (units bound) (units-fraction bound q) (uncapped k (2 ^ 24) (2 ^ 139) (units bound) (le-trans r (le→units c bound p Q h)) b)
 
 not-infinity-lt : (y : Float) → T (lt (inf false) y) → ⊥

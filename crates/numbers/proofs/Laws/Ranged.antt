@@ -1,61 +1,54 @@
 -- Binary32 numbers that lie in a range of document 01, section 2: a record for each range that the laws take, made from the test that the code makes, and its bounds in units.
 -- Each range lies at or above zero, so its numbers are amounts, and the laws of units apply to them. Assumes nothing.
 use mathlib.Core.Path.{_≡_, refl, sym, subst}
+use mathlib.Core.Bool.{_&&_}
 use Prim.Native.Nat.{ℕ, _^_, _≤_, _<_}
 use native.Mathlib.Nat.{le-trans, le-of-eq, lt-of-le-of-lt, lt-of-not-le}
 use lib.Dec.{T}
-use lib.Ieee.{Float, binary32, ofBits, fits, lt, le}
-use lib.Ieee.Fits.{and-l, and-r, and-i}
+use lib.Ieee.{Float, binary32, ofBits, lt, le}
+use lib.Ieee.Fits.{and-l, and-r}
 use lib.Ieee.Bits.{ofBits-fits}
 use Rattle.numbers.specs.Nearest.{units}
-use Rattle.numbers.specs.Numbers.{zero32, one32, pi32, halfPi32, finite}
-use Rattle.numbers.specs.Ranges.{limit, positive, unit, halfTurnFromZero}
+use Rattle.numbers.specs.Numbers.{IsBinary32, zero32, one32, pi32, halfPi32, finite}
+use Rattle.numbers.specs.Ranges.{limit, positive}
 use Rattle.numbers.proofs.Laws.Order.{lt→le, lt-not-le}
 use Rattle.numbers.proofs.Laws.Units.{Amount, le→units, units→le, finite-of-units, units-of-finite}
 use Rattle.numbers.proofs.Laws.Operations.{Gives, amount, nonneg→above}
 
 -- at least 0 and finite
 pub record Limit (x : Float) : Type 0 where
-  pub held : T (fits binary32 x)
+  pub held : IsBinary32 x
   pub above : T (le zero32 x)
   pub ends : T (finite x)
 
 -- above 0 and finite
 pub record Positive (x : Float) : Type 0 where
-  pub held : T (fits binary32 x)
+  pub held : IsBinary32 x
   pub above : T (lt zero32 x)
   pub ends : T (finite x)
 
--- in [0, 1]
-pub record Share (x : Float) : Type 0 where
-  pub held : T (fits binary32 x)
+-- in [0, top]
+pub record UpTo (top x : Float) : Type 0 where
+  pub held : IsBinary32 x
   pub above : T (le zero32 x)
-  pub below : T (le x one32)
+  pub below : T (le x top)
 
--- in [0, π]
-pub record Angle (x : Float) : Type 0 where
-  pub held : T (fits binary32 x)
-  pub above : T (le zero32 x)
-  pub below : T (le x pi32)
+-- in [0, 1], and in [0, π]
+abbrev pub Share : Float → Type 0
+Share x = UpTo one32 x
 
--- ---- from the test of each range, and back
-pub is-limit : (x : Float) → T (fits binary32 x) → T (limit x) → Limit x
+abbrev pub Angle : Float → Type 0
+Angle x = UpTo pi32 x
+
+-- ---- from the test of each range
+pub is-limit : (x : Float) → IsBinary32 x → T (limit x) → Limit x
 is-limit x f t = record { held = f; above = and-l (le zero32 x) (finite x) t; ends = and-r (le zero32 x) (finite x) t }
 
-pub is-positive : (x : Float) → T (fits binary32 x) → T (positive x) → Positive x
+pub is-positive : (x : Float) → IsBinary32 x → T (positive x) → Positive x
 is-positive x f t = record { held = f; above = and-l (lt zero32 x) (finite x) t; ends = and-r (lt zero32 x) (finite x) t }
 
-pub is-share : (x : Float) → T (fits binary32 x) → T (unit x) → Share x
-is-share x f t = record { held = f; above = and-l (le zero32 x) (le x one32) t; below = and-r (le zero32 x) (le x one32) t }
-
-pub share-is : (x : Float) → Share x → T (unit x)
-share-is x s = and-i (le zero32 x) (le x one32) (s .above) (s .below)
-
-pub is-angle : (x : Float) → T (fits binary32 x) → T (halfTurnFromZero x) → Angle x
-is-angle x f t = record { held = f; above = and-l (le zero32 x) (le x pi32) t; below = and-r (le zero32 x) (le x pi32) t }
-
-pub angle-is : (x : Float) → Angle x → T (halfTurnFromZero x)
-angle-is x a = and-i (le zero32 x) (le x pi32) (a .above) (a .below)
+pub is-up-to : (top x : Float) → IsBinary32 x → T (le zero32 x && le x top) → UpTo top x
+is-up-to top x f t = record { held = f; above = and-l (le zero32 x) (le x top) t; below = and-r (le zero32 x) (le x top) t }
 
 -- ---- each is an amount
 pub limit-amount : (x : Float) → Limit x → Amount x
@@ -67,11 +60,8 @@ positive-limit x p = record { held = p .held; above = lt→le zero32 x (p .above
 pub positive-amount : (x : Float) → Positive x → Amount x
 positive-amount x p = limit-amount x (positive-limit x p)
 
-pub share-amount : (x : Float) → Share x → Amount x
-share-amount x s = amount x (s .held) (s .above)
-
-pub angle-amount : (x : Float) → Angle x → Amount x
-angle-amount x a = amount x (a .held) (a .above)
+pub up-to-amount : {top : Float} (x : Float) → UpTo top x → Amount x
+up-to-amount x u = amount x (u .held) (u .above)
 
 -- ---- the constants
 pub zero-amount : Amount zero32
@@ -108,7 +98,7 @@ pub positive-units : (x : Float) → Positive x → 0 < units x
 positive-units x p = subst (λ (n : ℕ). n < units x) units-zero32 (lt→units zero32 x zero-amount (positive-amount x p) (p .above))
 
 pub share-units : (x : Float) → Share x → units x ≤ 2 ^ 149
-share-units x s = subst (λ (n : ℕ). units x ≤ n) units-one32 (le→units x one32 (share-amount x s) one-amount (s .below))
+share-units x s = subst (λ (n : ℕ). units x ≤ n) units-one32 (le→units x one32 (up-to-amount x s) one-amount (s .below))
 
 -- an amount of 2 ^ 149 units at most is a share
 pub units-share : (x : Float) (n : ℕ) → Gives x n → n ≤ 2 ^ 149 → Share x
@@ -124,7 +114,7 @@ pub below-finite : (x y : Float) → Amount x → Amount y → T (finite y) → 
 below-finite x y p q f h = finite-of-units x p (lt-of-le-of-lt (le→units x y p q h) (units-of-finite y q f))
 
 pub share-finite : (x : Float) → Share x → T (finite x)
-share-finite x s = below-finite x one32 (share-amount x s) one-amount (unfold ofBits in tt) (s .below)
+share-finite x s = below-finite x one32 (up-to-amount x s) one-amount (unfold ofBits in tt) (s .below)
 
 pub angle-finite : (x : Float) → Angle x → T (finite x)
-angle-finite x a = below-finite x pi32 (angle-amount x a) pi-amount (unfold ofBits in tt) (a .below)
+angle-finite x a = below-finite x pi32 (up-to-amount x a) pi-amount (unfold ofBits in tt) (a .below)

@@ -14,8 +14,8 @@ use lib.Ieee.Exact.{HasValue}
 use lib.Ieee.Nearest.{div-same}
 use lib.Ieee.Bits.{ofBits-toBits}
 use Rattle.numbers.specs.Nearest.{units, nonneg}
-use Rattle.numbers.specs.Numbers.{_⊕_, _⊖_, _⊗_, _⊘_, zero32, finite}
-use Rattle.numbers.proofs.Laws.Order.{bottom-le, le-neg, neg-neg, le-number-right, le-trans-number}
+use Rattle.numbers.specs.Numbers.{_⊕_, _⊖_, _⊘_, zero32, finite}
+use Rattle.numbers.proofs.Laws.Order.{number, bottom-le, le-neg, neg-neg, le-number-right, le-trans-number}
 use Rattle.numbers.proofs.Laws.Units.{Amount, le→units, units→le, units-zero}
 use Rattle.numbers.proofs.Laws.Rounded.{rounded, rounded-below, rnd, rnd-own, rnd-above, rnd-below}
 use Rattle.numbers.proofs.Laws.Operations.{Gives, add-gives, sub-gives, sub-falls, div-gives, nonneg→above}
@@ -69,6 +69,10 @@ gives-between z x n p g h = record { amount = g .amount; below = units→le z x 
 pub above-zero : (x : Float) → Amount x → T (le zero32 x)
 above-zero x p = nonneg→above x (p .above)
 
+-- so it is a number
+pub amount-number : (x : Float) → Amount x → T (number x)
+amount-number x p = le-number-right zero32 x (above-zero x p)
+
 at-most-zero : (x : Float) → Amount (neg x) → T (le x zero32)
 at-most-zero x p =
     subst (λ (z : Float). T (le z zero32)) (neg-neg x)
@@ -98,7 +102,7 @@ minus-infinity (fin s m e) f = refl
 pub difference-below : (x y : Float) → Amount x → Amount y → T (finite x) → T (le (x ⊖ y) x)
 difference-below x nan p q f = absurd (q .above)
 difference-below x (inf true) p q f = absurd (q .above)
-difference-below x (inf false) p q f = subst (λ (z : Float). T (le z x)) (sym (minus-infinity x f)) (bottom-le x (le-number-right zero32 x (above-zero x p)))
+difference-below x (inf false) p q f = subst (λ (z : Float). T (le z x)) (sym (minus-infinity x f)) (bottom-le x (amount-number x p))
 difference-below x (fin t n d) p q f =
     let y = fin t n d in
     elim (decLe (units y) (units x)) [

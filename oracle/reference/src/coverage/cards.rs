@@ -130,7 +130,7 @@ fn links(bytes: &[u8], walk: &Walk, refusal: Option<Refusal>) -> Vec<Item> {
         ),
         ("refused 8", past),
         ("refused 8: link exactly the record count", past && walk.next == records),
-        ("refused 8: link far past the card", past && walk.next > 800),
+        ("refused 8: link far past the card", past && walk.next > MOST_RECORDS),
         ("refused 8: the header's own link", past && from.is_none()),
         ("refused 9", back),
         ("refused 9: a record that leads to itself", back && from == Some(&walk.next)),

@@ -1,14 +1,13 @@
 //! Items of the rows of document 01, section 4, with the roll cut of section 6: what a call does in each mode.
 
 use super::{Counts, Item, Seen, no_line, no_step, numbers, place};
-use crate::machine::{Step, transitioning};
+use crate::machine::{REASONS, Step, transitioning};
 use crate::settings::{Settings, fields};
 use crate::track::{Track, forward_speed, nose_up, valid_airspeed};
 use stable_flight::{FlightMode, Vec3};
 use std::f32::consts::PI;
 
 const NEGATIVE_ZERO: u32 = 0x8000_0000;
-pub const REASONS: [u8; 6] = [11, 12, 13, 14, 15, 16];
 
 impl Seen<'_, Step> {
     pub fn asked(&self) -> bool {
@@ -116,7 +115,7 @@ pub fn name(counts: &mut Counts, track: &Track) {
     let mode = place(track.airframe, track.mode);
     counts.name_all(&mode, &step_items(&seen));
     if track.mode == FlightMode::Copter {
-        for number in REASONS {
+        for (number, _) in REASONS {
             counts.name(clears(&mode, number));
             counts.name(refused_by(&mode, number));
         }
@@ -126,7 +125,7 @@ pub fn name(counts: &mut Counts, track: &Track) {
     counts.name(format!("{mode}: settings refused"));
     let call = &[0.0; 17];
     counts.name_all(&mode, &settings(&Seen { before, after, call, line }));
-    for number in REASONS {
+    for (number, _) in REASONS {
         counts.name(format!("{mode}: cut with {number}"));
     }
     let call = &11;

@@ -3,7 +3,7 @@
 use super::usual;
 use crate::card::{RECORD_BYTES, RecordBytes, header_kind};
 use crate::joined::{Call, Joined};
-use crate::machine::{Airframe, Step, transitioning};
+use crate::machine::{Airframe, REASONS, Step, transitioning};
 use crate::random::Random;
 use crate::settings::{Settings, fields};
 use crate::track::Track;
@@ -84,7 +84,7 @@ impl Flight {
     }
 
     pub fn cut(&mut self) {
-        let reason = self.random.pick(&[11, 12, 13, 14, 15, 16]);
+        let (reason, _) = self.random.pick(&REASONS);
         self.call(Call::Cut(reason));
     }
 

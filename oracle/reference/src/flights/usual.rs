@@ -5,7 +5,7 @@ use super::flight::Flight;
 use crate::joined::Call;
 use crate::machine::Airframe;
 use crate::random::Random;
-use crate::settings::{Settings, bad_field, defaults};
+use crate::settings::{EXAMPLE, Settings, bad_field, defaults};
 use stable_flight::FlightMode;
 use std::f32::consts::FRAC_PI_2;
 
@@ -51,14 +51,11 @@ fn with_cosines(mut s: Settings) -> Settings {
     s
 }
 
-/// The settings of document 01's example.
-const EXAMPLE: [f32; 15] = [9.0, 4.0, 15.0, 5.0, 0.0, 2.0, 5.0, 10.0, 2.0, 0.0, 1.0, 0.25, 0.0625, 0.0, 0.75];
-
 /// Settings near the defaults.
 pub fn settings(random: &mut Random, airframe: Airframe) -> Settings {
     let mut s = defaults(airframe);
     if airframe == Airframe::Quadplane && random.once_in(6) {
-        s[..15].copy_from_slice(&EXAMPLE);
+        s = EXAMPLE;
     } else if !random.once_in(6) {
         varied(random, airframe, &mut s);
     }

@@ -25,4 +25,5 @@ pub mod InPlace
 pub mod Read
 pub mod Runs
 pub mod InRecord
+pub mod Stretches
 pub mod Theorem

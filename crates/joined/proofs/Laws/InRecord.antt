@@ -1,10 +1,9 @@
 -- Many steps through the entry on ONE record, that stays in memory: each call of `Joined::enter` finds there what the call before left, by their MIR.
--- The record may have been made after any calls of `Runs`, with the state that they left stored in it. What is answered and what the record then holds are document 01's.
+-- The record is made with any state in it. What is answered and what the record then holds are document 01's.
 -- By induction on the steps: each keeps the record and all else that is owned (`InPlace`). Assumes nothing.
 use mathlib.Core.Path.{_≡_, refl, sym, _∙_, ap, subst}
 use mathlib.Core.Logic.{∥∥₁-prop, ∥∥₁-elim, ∥∥₁-map}
-use mathlib.Core.HLevel.{×-prop}
-use mathlib.Core.List.{List, [], _∷_, _++_, List·isSet, map}
+use mathlib.Core.List.{List, [], _∷_, map}
 use mathlib.Core.Option.{some, Option·some-injective}
 use Prim.Native.Nat.{ℕ}
 use lib.ListN.{length}
@@ -12,24 +11,18 @@ use mir.Val.{Val, vptr}
 use base.Logic.{SProp, sep}
 use prog.Memory.{Memory, loadM, storeM, allocM}
 use prog.Routine.{ends, ends-one}
-use ghost.Sets.{Val-set}
 use ghost.Model.{𝓤, H, model}
 use contract.Adequate.{Satisfies}
-use Rattle.joined.specs.declared.settings.Settings.{Settings}
 use Rattle.joined.specs.declared.call.StepInput.{StepInput}
 use Rattle.joined.specs.declared.call.Call.{Call}
 use Rattle.joined.specs.declared.call.Call.the-variants as call
-use Rattle.joined.specs.declared.machine.Airframe.{Airframe}
 use Rattle.joined.specs.declared.joined.Joined.{Joined}
 use Rattle.joined.specs.declared.joined.JoinedUpdate.{JoinedUpdate}
-use Rattle.joined.specs.declared.joined.NewJoined.the-variants as new
-use Rattle.joined.specs.Joined.{newOf, stepOf, callOf}
-use Rattle.joined.specs.List.{Binary32Settings, Binary32Calls, after, answersOf}
-use Rattle.joined.proofs.Laws.History.{after-append}
-use Rattle.joined.proofs.Laws.Taken.{Taken, callsIn}
+use Rattle.joined.specs.Joined.{stepOf}
+use Rattle.joined.specs.List.{Binary32Calls, after, answersOf}
 use Rattle.joined.proofs.Laws.Values.{input-value, state, answer}
 use Rattle.joined.proofs.Laws.InPlace.{Holds, IsState, in-one, held, some-memory, kept}
-use Rattle.joined.proofs.Laws.Runs.{Made, Ran, values, runs, made-state, state-after, every-list-runs, Told, told-prop}
+use Rattle.joined.proofs.Laws.Runs.{values, Told, told-prop}
 use Rattle.joined.proofs.joined.Joined.Laws as J′
 use Rattle.joined.proofs.joined.Joined.enter.Symbol as enter-def
 
@@ -46,10 +39,14 @@ EntryRan b o σ [] (v ∷ us) σ′ = ⊥
 EntryRan b o σ (i ∷ is) [] σ′ = ⊥
 EntryRan b o σ (i ∷ is) (v ∷ us) σ′ = (σ₁ : Memory) × EntryRan b o σ is us σ₁ × ends enter-def.routine (vptr b o ∷ input-value i ∷ []) σ₁ v σ′
 
--- in some memory a record was made, and u stored in it; `enter`, called on it for each of the steps, returned vs; and the record then held v
+-- in the memory σ a record was made, and u stored in it; `enter`, called on it for each of the steps, returned vs; and the record then held v
+abbrev pub RanInRecordFrom : Memory → Val → List StepInput → List Val → Val → Type 0
+RanInRecordFrom σ u is vs v =
+    (σ₁ σ′ : Memory) × (storeM (allocM σ J′.mir) J′.mir (length σ) 0 u ≡ some σ₁) × EntryRan (length σ) 0 σ₁ is vs σ′ × (loadM σ′ J′.mir (length σ) 0 ≡ some v)
+
+-- the same, in some memory
 abbrev pub RanInRecord : Val → List StepInput → List Val → Val → Type 0
-RanInRecord u is vs v =
-    (σ σ₁ σ′ : Memory) × (storeM (allocM σ J′.mir) J′.mir (length σ) 0 u ≡ some σ₁) × EntryRan (length σ) 0 σ₁ is vs σ′ × (loadM σ′ J′.mir (length σ) 0 ≡ some v)
+RanInRecord u is vs v = (σ : Memory) × RanInRecordFrom σ u is vs v
 
 -- ---- the steps, on a record at any place that holds j, whatever else F is owned
 pub in-every : (b o : ℕ) (j : Joined) (is : List StepInput) → Binary32Calls (stepsIn is) → (σ σ′ : Memory) (us : List Val) (F : SProp 𝓤)
@@ -76,58 +73,24 @@ every-entry-runs b o j (i ∷ is) g σ F s =
     ∥∥₁-map (in-one b o (after j (stepsIn is)) i (g .0) (d .1) F (d .3)) (λ t. (t .1 ∷ d .0, t .2, (d .1, d .2, (t .0, t .3)), t .5)))
 
 -- ---- on a record that was made, and holds the state j
-in-made : (j : Joined) → IsState j → (is : List StepInput) → Binary32Calls (stepsIn is) → (vs : List Val) (v : Val) → RanInRecord (state j) is vs v → Told j (stepsIn is) vs v
-in-made j now is g vs v h =
+-- THE CLAIM: what the steps answer and what the record then holds are document 01's
+pub in-record-told : (j : Joined) → IsState j → (is : List StepInput) → Binary32Calls (stepsIn is) → (vs : List Val) (v : Val) → RanInRecord (state j) is vs v → Told j (stepsIn is) vs v
+in-record-told j now is g vs v h =
+    let r = h .1 in
     let b : ℕ = length (h .0) in
     let F : SProp 𝓤 = H .dies J′.mir b in
     let k : Joined = after j (stepsIn is) in
-    ∥∥₁-elim (kept (h .0) j now (h .1) (h .3)) (told-prop j (stepsIn is) vs v) (λ s.
-    ∥∥₁-elim (in-every b 0 j is g (h .1) (h .2) vs F s (h .4)) (told-prop j (stepsIn is) vs v) (λ d.
-    ∥∥₁-elim (held b 0 k (h .2) F (d .1)) (told-prop j (stepsIn is) vs v) (λ w. (d .0, Option·some-injective v (state k) (sym (h .5) ∙ w .0)))))
+    ∥∥₁-elim (kept (h .0) j now (r .0) (r .2)) (told-prop j (stepsIn is) vs v) (λ s.
+    ∥∥₁-elim (in-every b 0 j is g (r .0) (r .1) vs F s (r .3)) (told-prop j (stepsIn is) vs v) (λ d.
+    ∥∥₁-elim (held b 0 k (r .1) F (d .1)) (told-prop j (stepsIn is) vs v) (λ w. (d .0, Option·some-injective v (state k) (sym (r .4) ∙ w .0)))))
 
--- the state after the calls ts has a machine value of its type
-state-of : (a : Airframe) (s : Settings) → Binary32Settings s → (j : Joined) → newOf a s ≡ new.Joined j → (ts : List Taken) → Binary32Calls (callsIn ts)
-    → ∥ IsState (after j (callsIn ts)) ∥₁
-state-of a s g j e ts gs = ∥∥₁-elim (made-state a s g j e) ∥∥₁-prop (λ now. state-after j now (callsIn ts) gs)
-
--- ---- THE CLAIM. After any calls ts the state that they left is stored in a record, and steps go on there:
--- the answers are document 01's, and so is the state that the record then holds
-pub runs-in-record : (a : Airframe) (s : Settings) → Binary32Settings s → (j : Joined) → Made a s j → (ts : List Taken) → Binary32Calls (callsIn ts)
-    → (us : List Val) (w : Val) → Ran (state j) ts us w → (is : List StepInput) → Binary32Calls (stepsIn is) → (vs : List Val) (v : Val) → RanInRecord w is vs v
-    → (vs ≡ values (answersOf (after j (callsIn ts)) (stepsIn is))) × (v ≡ state (after (after j (callsIn ts)) (stepsIn is)))
-runs-in-record a s g j m ts gs us w h is gi vs v r =
-    let d = runs a s g j m ts gs us w h in
-    let k : Joined = after j (callsIn ts) in
-    ∥∥₁-elim (state-of a s g j (d .0) ts gs) (told-prop k (stepsIn is) vs v) (λ now. in-made k now is gi vs v (subst (λ (x : Val). RanInRecord x is vs v) (d .2) r))
-
--- ---- and there are such runs
-pub every-record-runs : (a : Airframe) (s : Settings) → Binary32Settings s → (j : Joined) → newOf a s ≡ new.Joined j → (ts : List Taken) → Binary32Calls (callsIn ts)
-    → (is : List StepInput) → Binary32Calls (stepsIn is) → ∥ ((vs : List Val) × (v : Val) × RanInRecord (state (after j (callsIn ts))) is vs v) ∥₁
-every-record-runs a s g j e ts gs is gi =
-    let k : Joined = after j (callsIn ts) in
-    let F : SProp 𝓤 = H .dies J′.mir 0 in
-    ∥∥₁-elim (state-of a s g j e ts gs) ∥∥₁-prop (λ now.
-    ∥∥₁-elim (some-memory [] k now) ∥∥₁-prop (λ m.
-    ∥∥₁-elim (kept [] k now (m .0) (m .1)) ∥∥₁-prop (λ q.
-    ∥∥₁-elim (every-entry-runs 0 0 k is gi (m .0) F q) ∥∥₁-prop (λ t.
-    ∥∥₁-map (held 0 0 (after k (stepsIn is)) (t .1) F (t .3)) (λ w. (t .0, state (after k (stepsIn is)), ([], m .0, t .1, m .1, t .2, w .0)))))))
-
--- the calls ts and then the steps, from the making on
-pub every-list-runs-in-record : (a : Airframe) (s : Settings) → Binary32Settings s → (j : Joined) → newOf a s ≡ new.Joined j → (ts : List Taken) → Binary32Calls (callsIn ts)
-    → (is : List StepInput) → Binary32Calls (stepsIn is)
-    → ∥ (Made a s j × ((us : List Val) × (w : Val) × Ran (state j) ts us w × ((vs : List Val) × (v : Val) × RanInRecord w is vs v))) ∥₁
-every-list-runs-in-record a s g j e ts gs is gi =
-    ∥∥₁-elim (every-list-runs a s g j e ts gs) ∥∥₁-prop (λ h.
-    let us : List Val = h .1 .0 in
-    let w : Val = h .1 .1 in
-    let left : w ≡ state (after j (callsIn ts)) = runs a s g j (h .0) ts gs us w (h .1 .2) .2 in
-    ∥∥₁-map (every-record-runs a s g j e ts gs is gi) (λ r. (h .0, (us, w, h .1 .2, (r .0, r .1, subst (λ (x : Val). RanInRecord x is (r .0) (r .1)) (sym left) (r .2))))))
-
--- ---- two lists of calls, one after the other
-pub answers-append : (j : Joined) (xs ys : List Call) → answersOf j (xs ++ ys) ≡ answersOf (after j ys) xs ++ answersOf j ys
-answers-append j [] ys = refl
-answers-append j (c ∷ xs) ys = λ k. callOf (after-append j xs ys k) c .answer ∷ answers-append j xs ys k
-
-pub binary32-append : (xs ys : List Call) → Binary32Calls xs → Binary32Calls ys → Binary32Calls (xs ++ ys)
-binary32-append [] ys g h = h
-binary32-append (c ∷ xs) ys g h = (g .0, binary32-append xs ys (g .1) h)
+-- ---- and there are such runs, on a record that is made in any memory
+pub every-record-runs : (j : Joined) → IsState j → (is : List StepInput) → Binary32Calls (stepsIn is) → (σ : Memory)
+    → ∥ ((vs : List Val) × (v : Val) × RanInRecordFrom σ (state j) is vs v) ∥₁
+every-record-runs j now is g σ =
+    let b : ℕ = length σ in
+    let F : SProp 𝓤 = H .dies J′.mir b in
+    ∥∥₁-elim (some-memory σ j now) ∥∥₁-prop (λ m.
+    ∥∥₁-elim (kept σ j now (m .0) (m .1)) ∥∥₁-prop (λ q.
+    ∥∥₁-elim (every-entry-runs b 0 j is g (m .0) F q) ∥∥₁-prop (λ t.
+    ∥∥₁-map (held b 0 (after j (stepsIn is)) (t .1) F (t .3)) (λ w. (t .0, state (after j (stepsIn is)), (m .0, t .1, m .1, t .2, w .0))))))

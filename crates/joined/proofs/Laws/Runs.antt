@@ -1,25 +1,21 @@
--- Every list of calls, at the machine: what it does on calls of `Joined::new`, `Joined::call` and `Joined::enter`, by their MIR. No contract is named in what is claimed.
--- `new` makes a state; each call is then made on the state that the one before handed back, or left in the caller's record, from any memory.
+-- Every list of calls by value, at the machine: what it does on calls of `Joined::new` and `Joined::call`, by their MIR. No contract is named in what is claimed.
+-- `new` makes a state; each call is then made on the state that the one before handed back, from any memory.
 -- What is answered and what is left are the machine values of document 01's answers and state. A float's machine value is the number: a NaN has no bits there.
--- It holds since each function's theorem says what its routine returns (`Returned`, `InPlace`), and a routine ends in one way. Assumes nothing.
+-- It holds since each function's theorem says what its routine returns (`Returned`), and a routine ends in one way. Assumes nothing.
 use mathlib.Core.Path.{_≡_, refl, sym, _∙_, ap, subst}
 use mathlib.Core.Logic.{∥∥₁-prop, ∥∥₁-elim, ∥∥₁-map}
 use mathlib.Core.HLevel.{×-prop}
 use mathlib.Core.List.{List, [], _∷_, List·isSet, map}
-use mathlib.Core.Option.{some, Option·some-injective}
 use Prim.Native.Nat.{ℕ}
-use lib.ListN.{length}
-use mir.Val.{Val, vptr, vstruct, vnil, vcons}
-use base.Logic.{SProp, sep, emp, exE, monoL, snd∗, id⊢}
-use prog.Memory.{Memory, loadM, storeM, allocM}
+use mir.Val.{Val, vstruct, vnil, vcons}
+use base.Logic.{emp, exE, snd∗, id⊢}
+use prog.Memory.{Memory}
 use prog.Machine.{done as ended}
-use prog.Routine.{Routine, ends, ends-one}
-use ghost.Atoms.{Atoms, sem}
+use prog.Routine.{ends, ends-one}
+use ghost.Atoms.{sem}
 use ghost.Sets.{Val-set}
 use ghost.Model.{𝓤, H, model}
 use contract.Monad.{fact}
-use contract.Running.{Running, real}
-use contract.Adequate.{Satisfies, sat-weaken}
 use contract.BorrowModel.{ghost₀}
 use denote.Laws.{Is}
 use denote.Steps.{only}
@@ -27,7 +23,6 @@ use denote.Struct.Laws as LL
 use denote.Enum.Laws as LE
 use denote.Triple.Clauses.{lasts}
 use Rattle.joined.specs.declared.settings.Settings.{Settings}
-use Rattle.joined.specs.declared.call.StepInput.{StepInput}
 use Rattle.joined.specs.declared.call.Call.{Call}
 use Rattle.joined.specs.declared.answer.Answer.{Answer}
 use Rattle.joined.specs.declared.machine.Airframe.{Airframe}
@@ -35,12 +30,11 @@ use Rattle.joined.specs.declared.joined.Joined.{Joined}
 use Rattle.joined.specs.declared.joined.JoinedUpdate.{JoinedUpdate}
 use Rattle.joined.specs.declared.joined.NewJoined.{NewJoined}
 use Rattle.joined.specs.declared.joined.NewJoined.the-variants as new
-use Rattle.joined.specs.Joined.{newOf, stepOf, callOf}
-use Rattle.joined.specs.List.{Binary32Settings, Binary32Step, Binary32Call, Binary32Calls, after, answersOf}
-use Rattle.joined.proofs.Laws.Taken.{Taken, by-value, through-entry, callIn, callsIn}
-use Rattle.joined.proofs.Laws.Values.{airframe-value, settings-value, input-value, call-value, state, made, answer, settings-is, call-is, airframe-is}
+use Rattle.joined.specs.Joined.{newOf, callOf}
+use Rattle.joined.specs.List.{Binary32Settings, Binary32Call, Binary32Calls, after, answersOf}
+use Rattle.joined.proofs.Laws.Values.{airframe-value, settings-value, call-value, state, made, answer, settings-is, call-is, airframe-is}
 use Rattle.joined.proofs.Laws.Returned.{returned, any}
-use Rattle.joined.proofs.Laws.InPlace.{Holds, IsState, in-one, puts, held, some-memory, kept, A, 𝓡}
+use Rattle.joined.proofs.Laws.InPlace.{IsState, A, 𝓡}
 use Rattle.joined.proofs.Laws.Read.{part, made-joined}
 use Rattle.joined.proofs.settings.Settings as G
 use Rattle.joined.proofs.settings.Settings.Laws as G′
@@ -60,34 +54,19 @@ use Rattle.joined.proofs.joined.Joined.new.Met as new-thm
 use Rattle.joined.proofs.joined.Joined.call as call-fn
 use Rattle.joined.proofs.joined.Joined.call.Symbol as call-def
 use Rattle.joined.proofs.joined.Joined.call.Met as call-thm
-use Rattle.joined.proofs.joined.Joined.enter.Symbol as enter-def
 
 -- ---- what is claimed
 
--- the function ρ, called on the values vs in the memory σ, returned the struct of the state v and the answer a
-abbrev pub HandsBack : Memory → Routine → List Val → Val → Val → Type 0
-HandsBack σ ρ vs a v = (σ′ : Memory) × ends ρ vs σ (vstruct (vcons v (vcons a vnil))) σ′
+-- the call c, made in the memory σ on the state u, answered a and handed back the state v
+abbrev pub DidIn : Memory → Call → Val → Val → Val → Type 0
+DidIn σ c u a v = (σ′ : Memory) × ends call-def.routine (u ∷ call-value c ∷ []) σ (vstruct (vcons v (vcons a vnil))) σ′
 
--- in the memory σ a record was made, and u stored in it; `enter`, called on the pointer to it and on vs, returned a; and the record then held v
-abbrev pub LeavesInRecord : Memory → List Val → Val → Val → Val → Type 0
-LeavesInRecord σ vs u a v =
-    (σ₁ σ′ : Memory) × (storeM (allocM σ J′.mir) J′.mir (length σ) 0 u ≡ some σ₁) × ends enter-def.routine (vptr (length σ) 0 ∷ vs) σ₁ a σ′ × (loadM σ′ J′.mir (length σ) 0 ≡ some v)
-
--- the call t, made in the memory σ on the state u, answered a, and the state is v from there on
-abbrev pub DidIn : Memory → Taken → Val → Val → Val → Type 0
-DidIn σ (by-value c) u a v = HandsBack σ call-def.routine (u ∷ call-value c ∷ []) a v
-DidIn σ (through-entry i) u a v = LeavesInRecord σ (input-value i ∷ []) u a v
-
--- the same, in some memory
-abbrev pub Did : Taken → Val → Val → Val → Type 0
-Did t u a v = (σ : Memory) × DidIn σ t u a v
-
--- the calls were made one after the other from the state u on, were answered us, and left v; the last call stands first
-abbrev pub Ran : Val → List Taken → List Val → Val → Type 0
+-- the calls were made one after the other from the state u on, each in some memory, were answered us, and left v; the last call stands first
+abbrev pub Ran : Val → List Call → List Val → Val → Type 0
 Ran u [] [] v = u ≡ v
 Ran u [] (a ∷ us) v = ⊥
-Ran u (t ∷ ts) [] v = ⊥
-Ran u (t ∷ ts) (a ∷ us) v = (w : Val) × Ran u ts us w × Did t w a v
+Ran u (c ∷ cs) [] v = ⊥
+Ran u (c ∷ cs) (a ∷ us) v = (w : Val) × Ran u cs us w × ((σ : Memory) × DidIn σ c w a v)
 
 -- `new`, called in the memory σ with the airframe a and the settings s, made the joined machine j
 abbrev pub MadeIn : Memory → Airframe → Settings → Joined → Type 0
@@ -131,30 +110,12 @@ Right to a v = (a ≡ answer (to .answer)) × (v ≡ state (to .joined))
 right-prop : (to : JoinedUpdate) (a v : Val) → IsProp (Right to a v)
 right-prop to a v = ×-prop (Val-set a (answer (to .answer))) (Val-set v (state (to .joined)))
 
-handed-right : (j : Joined) → IsState j → (c : Call) → Binary32Call c → (a v : Val) (σ : Memory) → DidIn σ (by-value c) (state j) a v → Right (callOf j c) a v
-handed-right j is c g a v σ h = ∥∥₁-elim (call-returns j is c g σ) (right-prop (callOf j c) a v) (λ t.
+right : (j : Joined) → IsState j → (c : Call) → Binary32Call c → (a v : Val) (σ : Memory) → DidIn σ c (state j) a v → Right (callOf j c) a v
+right j is c g a v σ h = ∥∥₁-elim (call-returns j is c g σ) (right-prop (callOf j c) a v) (λ t.
     let u : Val = vstruct (vcons v (vcons a vnil)) in
     let same : _≡_ {A = Val × Memory} (t .1, t .2) (u, h .0) = ends-one call-def.routine (state j ∷ call-value c ∷ []) σ (t .1, t .2) (u, h .0) (t .0, t .3) (h .1) in
     let e : u ≡ update-value (callOf j c) = sym (ap (λ (x : Val × Memory). x .0) same) ∙ returned-value j c σ t in
     (ap (part 1) e, ap (part 0) e))
-
-left-right : (j : Joined) → IsState j → (i : StepInput) → Binary32Step i → (a v : Val) (σ : Memory) → DidIn σ (through-entry i) (state j) a v → Right (stepOf j i) a v
-left-right j is i g a v σ h =
-    let b : ℕ = length σ in
-    let to : JoinedUpdate = stepOf j i in
-    let F : SProp 𝓤 = H .dies J′.mir b in
-    ∥∥₁-elim (kept σ j is (h .0) (h .2)) (right-prop to a v) (λ s.
-    ∥∥₁-elim (in-one b 0 j i g (h .0) F s) (right-prop to a v) (λ t.
-    let vs : List Val = vptr b 0 ∷ input-value i ∷ [] in
-    let same : _≡_ {A = Val × Memory} (t .1, t .2) (a, h .1) = ends-one enter-def.routine vs (h .0) (t .1, t .2) (a, h .1) (t .0, t .3) (h .3) in
-    let s′ : Satisfies 𝓤 H model (h .1) (sep 𝓤 (Holds b 0 (to .joined)) F) = subst (λ (x : Val × Memory). Satisfies 𝓤 H model (x .1) (sep 𝓤 (Holds b 0 (to .joined)) F)) same
-    (t .5) in
-    ∥∥₁-elim (held b 0 (to .joined) (h .1) F s′) (right-prop to a v) (λ w.
-    (sym (ap (λ (x : Val × Memory). x .0) same) ∙ t .4, Option·some-injective v (state (to .joined)) (sym (h .4) ∙ w .0)))))
-
-right : (j : Joined) → IsState j → (t : Taken) → Binary32Call (callIn t) → (a v : Val) → Did t (state j) a v → Right (callOf j (callIn t)) a v
-right j is (by-value c) g a v h = handed-right j is c g a v (h .0) (h .1)
-right j is (through-entry i) g a v h = left-right j is i g a v (h .0) (h .1)
 
 -- ---- the states that come of the calls have machine values of their type
 pub state-after : (j : Joined) → IsState j → (cs : List Call) → Binary32Calls cs → ∥ IsState (after j cs) ∥₁
@@ -168,14 +129,15 @@ Told j cs us v = (us ≡ values (answersOf j cs)) × (v ≡ state (after j cs))
 pub told-prop : (j : Joined) (cs : List Call) (us : List Val) (v : Val) → IsProp (Told j cs us v)
 told-prop j cs us v = ×-prop (List·isSet Val-set us (values (answersOf j cs))) (Val-set v (state (after j cs)))
 
-from-state : (j : Joined) → IsState j → (ts : List Taken) → Binary32Calls (callsIn ts) → (us : List Val) (v : Val) → Ran (state j) ts us v → Told j (callsIn ts) us v
-from-state j is [] g [] v h = (refl, sym h)
-from-state j is [] g (a ∷ us) v h = absurd h
-from-state j is (t ∷ ts) g [] v h = absurd h
-from-state j is (t ∷ ts) g (a ∷ us) v h = ∥∥₁-elim (state-after j is (callsIn ts) (g .1)) (told-prop j (callsIn (t ∷ ts)) (a ∷ us) v) (λ now.
-    let told : Told j (callsIn ts) us (h .0) = from-state j is ts (g .1) us (h .0) (h .1) in
-    let last : Right (callOf (after j (callsIn ts)) (callIn t)) a v = right (after j (callsIn ts)) now t (g .0) a v (subst (λ (w : Val). Did t w a v) (told .1) (h .2)) in
-    (ap (λ (x : Val). x ∷ us) (last .0) ∙ ap (λ (l : List Val). answer (callOf (after j (callsIn ts)) (callIn t) .answer) ∷ l) (told .0), last .1))
+-- THE CLAIM: what a list of calls answers and leaves is document 01's
+pub ran-told : (j : Joined) → IsState j → (cs : List Call) → Binary32Calls cs → (us : List Val) (v : Val) → Ran (state j) cs us v → Told j cs us v
+ran-told j is [] g [] v h = (refl, sym h)
+ran-told j is [] g (a ∷ us) v h = absurd h
+ran-told j is (c ∷ cs) g [] v h = absurd h
+ran-told j is (c ∷ cs) g (a ∷ us) v h = ∥∥₁-elim (state-after j is cs (g .1)) (told-prop j (c ∷ cs) (a ∷ us) v) (λ now.
+    let told : Told j cs us (h .0) = ran-told j is cs (g .1) us (h .0) (h .1) in
+    let last : Right (callOf (after j cs) c) a v = right (after j cs) now c (g .0) a v (h .2 .0) (subst (λ (w : Val). DidIn (h .2 .0) c w a v) (told .1) (h .2 .1)) in
+    (ap (λ (x : Val). x ∷ us) (last .0) ∙ ap (λ (l : List Val). answer (callOf (after j cs) c .answer) ∷ l) (told .0), last .1))
 
 -- ---- the making
 abbrev News : Airframe → Settings → Memory → Type 0
@@ -194,7 +156,7 @@ new-value : (a : Airframe) (s : Settings) (σ : Memory) (t : News a s σ) → t 
 new-value a s σ t = ap only (LE.tells K.the-type K′.the-laws (t .4) (t .1 ∷ []) (t .5)) ∙ ap made (t .6)
 
 -- what `new` made is document 01's
-made-right : (a : Airframe) (s : Settings) → Binary32Settings s → (j : Joined) → Made a s j → newOf a s ≡ new.Joined j
+pub made-right : (a : Airframe) (s : Settings) → Binary32Settings s → (j : Joined) → Made a s j → newOf a s ≡ new.Joined j
 made-right a s g j h = made-joined (newOf a s) j (∥∥₁-elim (new-returns a s g (h .0)) (Val-set (made (newOf a s)) (made (new.Joined j))) (λ t.
     let vs : List Val = airframe-value a ∷ settings-value s ∷ [] in
     let same : _≡_ {A = Val × Memory} (t .1, t .2) (made (new.Joined j), h .1 .0) = ends-one new-def.routine vs (h .0) (t .1, t .2) (made (new.Joined j), h .1 .0) (t .0, t .3)
@@ -205,47 +167,21 @@ pub made-state : (a : Airframe) (s : Settings) → Binary32Settings s → (j : J
 made-state a s g j e = ∥∥₁-map (new-returns a s g [])
     (λ t. LE.owed K.the-type K′.the-laws (new.Joined j) (t .1 ∷ []) (subst (λ (r : NewJoined). Is K.the-row r (t .1 ∷ [])) (t .6 ∙ e) (t .5)) .0)
 
--- ---- THE CLAIM. `new` made the state j of any settings whose numbers are binary32. For every list of calls on it, with binary32 numbers:
--- j is the state that document 01 makes, the answers are document 01's, and so is the state that is left
-pub runs : (a : Airframe) (s : Settings) → Binary32Settings s → (j : Joined) → Made a s j → (ts : List Taken) → Binary32Calls (callsIn ts) → (us : List Val) (v : Val) → Ran (state j) ts us v
-    → (newOf a s ≡ new.Joined j) × (us ≡ values (answersOf j (callsIn ts))) × (v ≡ state (after j (callsIn ts)))
-runs a s g j m ts gs us v h =
-    let e : newOf a s ≡ new.Joined j = made-right a s g j m in
-    let told : Told j (callsIn ts) us v = ∥∥₁-elim (made-state a s g j e) (told-prop j (callsIn ts) us v) (λ is. from-state j is ts gs us v h) in
-    (e, told .0, told .1)
-
 -- ---- and the functions do return, from any memory
-does : (j : Joined) → IsState j → (t : Taken) → Binary32Call (callIn t) → (σ : Memory)
-    → ∥ DidIn σ t (state j) (answer (callOf j (callIn t) .answer)) (state (callOf j (callIn t) .joined)) ∥₁
-does j is (by-value c) g σ = ∥∥₁-map (call-returns j is c g σ) (λ t.
-    (t .2, (t .0, subst (λ (u : Val). call-def.routine .step (t .0) (state j ∷ call-value c ∷ []) σ ≡ ended (u, t .2)) (returned-value j c σ t) (t .3))))
-does j is (through-entry i) g σ =
-    let b : ℕ = length σ in
-    let to : JoinedUpdate = stepOf j i in
-    let F : SProp 𝓤 = H .dies J′.mir b in
-    ∥∥₁-elim (some-memory σ j is) ∥∥₁-prop (λ m.
-    ∥∥₁-elim (in-one b 0 j i g (m .0) F (sat-weaken 𝓤 H model (m .0) (monoL 𝓤 F (puts b 0 j is)) (m .2))) ∥∥₁-prop (λ t.
-    ∥∥₁-map (held b 0 (to .joined) (t .2) F (t .5)) (λ w.
-    (m .0, t .2, m .1, (t .0, subst (λ (u : Val). enter-def.routine .step (t .0) (vptr b 0 ∷ input-value i ∷ []) (m .0) ≡ ended (u, t .2)) (t .4) (t .3)), w .0))))
-
 -- `new` can be called in any memory, and makes what document 01 makes
 pub every-new-runs : (a : Airframe) (s : Settings) → Binary32Settings s → (j : Joined) → newOf a s ≡ new.Joined j → (σ : Memory) → ∥ MadeIn σ a s j ∥₁
 every-new-runs a s g j e σ = ∥∥₁-map (new-returns a s g σ) (λ t.
     (t .2, (t .0, subst (λ (u : Val). new-def.routine .step (t .0) (airframe-value a ∷ settings-value s ∷ []) σ ≡ ended (u, t .2)) (new-value a s σ t ∙ ap made e) (t .3))))
 
--- after every list of calls any next call can be made, in any memory
-pub every-call-runs : (a : Airframe) (s : Settings) → Binary32Settings s → (j : Joined) → newOf a s ≡ new.Joined j → (ts : List Taken) → Binary32Calls (callsIn ts) → (t : Taken)
-    → Binary32Call (callIn t) → (σ : Memory)
-    → ∥ DidIn σ t (state (after j (callsIn ts))) (answer (callOf (after j (callsIn ts)) (callIn t) .answer)) (state (after j (callsIn (t ∷ ts)))) ∥₁
-every-call-runs a s g j e ts gs t gt σ = ∥∥₁-elim (made-state a s g j e) ∥∥₁-prop
-    (λ is. ∥∥₁-elim (state-after j is (callsIn ts) gs) ∥∥₁-prop (λ now. does (after j (callsIn ts)) now t gt σ))
+-- any call can be made, in any memory
+pub every-call-runs : (j : Joined) → IsState j → (c : Call) → Binary32Call c → (σ : Memory) → ∥ DidIn σ c (state j) (answer (callOf j c .answer)) (state (callOf j c .joined)) ∥₁
+every-call-runs j is c g σ = ∥∥₁-map (call-returns j is c g σ) (λ t.
+    (t .2, (t .0, subst (λ (u : Val). call-def.routine .step (t .0) (state j ∷ call-value c ∷ []) σ ≡ ended (u, t .2)) (returned-value j c σ t) (t .3))))
 
--- so every list of calls can be made: the claim is about something
-pub every-list-runs : (a : Airframe) (s : Settings) → Binary32Settings s → (j : Joined) → newOf a s ≡ new.Joined j → (ts : List Taken) → Binary32Calls (callsIn ts)
-    → ∥ (Made a s j × ((us : List Val) × (v : Val) × Ran (state j) ts us v)) ∥₁
-every-list-runs a s g j e ts gs = ∥∥₁-elim (every-new-runs a s g j e []) ∥∥₁-prop
-    (λ m. ∥∥₁-map (go ts gs) (λ h. (([], m), (values (answersOf j (callsIn ts)), state (after j (callsIn ts)), h))))
-  where
-    go : (ts : List Taken) → Binary32Calls (callsIn ts) → ∥ Ran (state j) ts (values (answersOf j (callsIn ts))) (state (after j (callsIn ts))) ∥₁
-    go [] gs = ∣ refl ∣₁
-    go (t ∷ ts) gs = ∥∥₁-elim (go ts (gs .1)) ∥∥₁-prop (λ h. ∥∥₁-map (every-call-runs a s g j e ts (gs .1) t (gs .0) []) (λ d. (state (after j (callsIn ts)), h, ([], d))))
+-- so every list of calls can be made
+pub every-list-runs : (j : Joined) → IsState j → (cs : List Call) → Binary32Calls cs → ∥ Ran (state j) cs (values (answersOf j cs)) (state (after j cs)) ∥₁
+every-list-runs j is [] g = ∣ refl ∣₁
+every-list-runs j is (c ∷ cs) g =
+    ∥∥₁-elim (every-list-runs j is cs (g .1)) ∥∥₁-prop (λ h.
+    ∥∥₁-elim (state-after j is cs (g .1)) ∥∥₁-prop (λ now.
+    ∥∥₁-map (every-call-runs (after j cs) now c (g .0) []) (λ d. (state (after j cs), h, ([], d)))))

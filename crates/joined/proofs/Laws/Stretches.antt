@@ -66,9 +66,10 @@ binary32-split [] ys g = (tt, g)
 binary32-split (c ∷ xs) ys g = let r = binary32-split xs ys (g .1) in ((g .0, r .0), r .1)
 
 append-told : (j : Joined) (xs ys : List Call) (us vs : List Val) (v : Val) → vs ≡ values (answersOf j ys) → Told (after j ys) xs us v → Told j (xs ++ ys) (us ++ vs) v
-append-told j xs ys us vs v e t =
-    ((λ k. t .0 k ++ e k) ∙ sym (values-append (answersOf (after j ys) xs) (answersOf j ys)) ∙ ap values (sym (answers-append j xs ys)),
-    t .1 ∙ ap state (sym (after-append j xs ys)))
+append-told j xs ys us vs v e t = (
+  (λ k. t .0 k ++ e k) ∙ sym (values-append (answersOf (after j ys) xs) (answersOf j ys)) ∙ ap values (sym (answers-append j xs ys)),
+  t .1 ∙ ap state (sym (after-append j xs ys)),
+)
 
 -- ---- from a state that has a machine value of its type
 one-told : (j : Joined) → IsState j → (s : Stretch) → Binary32Calls (callsBy s) → (us : List Val) (v : Val) → RanBy s (state j) us v → Told j (callsBy s) us v

@@ -1,5 +1,5 @@
 -- The calls of a list, by the way they are made. Definitions only. Assumes nothing.
-use mathlib.Core.List.{List, [], _∷_, map}
+use mathlib.Core.List.{List, map}
 use Rattle.joined.specs.declared.call.StepInput.{StepInput}
 use Rattle.joined.specs.declared.call.Call.{Call}
 use Rattle.joined.specs.declared.call.Call.the-variants as call

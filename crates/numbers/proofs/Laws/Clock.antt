@@ -13,7 +13,7 @@ use lib.Ieee.{Float, nan, inf, fin, binary32, ofBits, fits, lt, le, sub}
 use lib.Ieee.Bits.{ofBits-fits}
 use lib.Ieee.Positive.{num, den, den-pos}
 use Rattle.numbers.specs.Nearest.{units}
-use Rattle.numbers.specs.Numbers.{_⊕_, _⊖_, zero32, tick32, longest32, floatOf, finite}
+use Rattle.numbers.specs.Numbers.{_⊕_, _⊖_, zero32, tick32, longest32, finite}
 use Rattle.numbers.proofs.Laws.Order.{le-trans-number}
 use Rattle.numbers.proofs.Laws.Units.{Amount, le→units, units-exact, finite-of-units, units-of-finite}
 use Rattle.numbers.proofs.Laws.Rounded.{rnd, rnd-exact, rnd-own, rnd-above, rnd-strict}

@@ -1,4 +1,4 @@
--- Document 01, section 1: binary32 arithmetic, the constants by their bits, clamp, min and max; and section 7: bits and bytes. Definitions only.
+-- Document 01, section 1: binary32 arithmetic, the constants by their bits, clamp, min and max; section 7: bits and bytes; and two times of demand 3. Definitions only.
 -- The values, the operations and the comparisons are IEEE 754's, as the library `lib.Ieee` has them: one `nan`, two infinities, two zeros.
 -- Assumes nothing.
 use mathlib.Core.Bool.{Bool, true, false}
@@ -12,7 +12,7 @@ abbrev pub if_then_else_ : {A : Type 0} → Bool → A → A → A
 if true then x else y = x
 if false then x else y = y
 
--- ---- a binary32 value: the NaN, an infinity, or a number that is written in 32 bits
+-- ---- a binary32 value, one that 32 bits stand for: the NaN, an infinity, or a finite number of that format in its one form
 abbrev pub IsBinary32 : Float → Type 0
 IsBinary32 x = T (fits binary32 x)
 

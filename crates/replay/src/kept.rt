@@ -16,7 +16,7 @@ use machines::vtol::Transition;
 use numbers::constants::nan;
 
 // What is kept from record to record.
-pub struct Kept {
+pub(crate) struct Kept {
     pub handoff: ThrustHandoff,
     pub deceleration: BackDeceleration,
     pub split: ForwardThrust,

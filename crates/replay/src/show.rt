@@ -9,9 +9,9 @@ use machines::answer::TransitionStep;
 use numbers::bits::to_bits;
 use numbers::vector::Vec2;
 
-pub const SPACE: u8 = b' ';
+pub(crate) const SPACE: u8 = b' ';
 
-pub const END: u8 = b'\n';
+pub(crate) const END: u8 = b'\n';
 
 // A word of text.
 pub(crate) fn word(text: &[u8], after: u8) {

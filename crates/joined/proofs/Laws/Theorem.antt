@@ -19,7 +19,7 @@ use Rattle.joined.proofs.Laws.Taken.{Taken, callsIn}
 use Rattle.joined.proofs.Laws.Chains.{Chain, Stands, answersIn, chain, every-list-chains}
 use Rattle.joined.proofs.Laws.Values.{state}
 use Rattle.joined.proofs.Laws.Runs.{Made, values}
-use Rattle.joined.proofs.Laws.Stretches.{Stretch, callsOf, RanAll, joinAll, runs, every-stretch-runs}
+use Rattle.joined.proofs.Laws.Stretches.{Stretch, callsByAll, RanAll, inOneList, runs, every-stretch-runs}
 use Rattle.joined.proofs.joined.Joined.new.Reads as new-reads
 
 -- `new` handed back the joined machine j, as far as its contract says
@@ -42,10 +42,10 @@ pub record ListTheorem : Type 0 where
   -- and every list has such results
   pub contracts-met : (j : Joined) (ts : List Taken) → (rs : List JoinedUpdate) × Chain j ts rs
   -- by the functions' own runs on the machine: calls by value, each from any memory, and steps on a record that stays in memory
-  pub on-machine : (a : Airframe) (s : Settings) → Binary32Settings s → (j : Joined) → Made a s j → (ss : List Stretch) → Binary32Calls (callsOf ss)
-      → (uss : List (List Val)) (v : Val) → RanAll (state j) ss uss v → ClaimOfValues a s j (callsOf ss) (joinAll uss) v
+  pub on-machine : (a : Airframe) (s : Settings) → Binary32Settings s → (j : Joined) → Made a s j → (ss : List Stretch) → Binary32Calls (callsByAll ss)
+      → (uss : List (List Val)) (v : Val) → RanAll (state j) ss uss v → ClaimOfValues a s j (callsByAll ss) (inOneList uss) v
   -- and every list has such runs, from every new joined machine with accepted settings
-  pub runs-met : (a : Airframe) (s : Settings) → Binary32Settings s → (j : Joined) → newOf a s ≡ new.Joined j → (ss : List Stretch) → Binary32Calls (callsOf ss)
+  pub runs-met : (a : Airframe) (s : Settings) → Binary32Settings s → (j : Joined) → newOf a s ≡ new.Joined j → (ss : List Stretch) → Binary32Calls (callsByAll ss)
       → ∥ (Made a s j × ((uss : List (List Val)) × (v : Val) × RanAll (state j) ss uss v)) ∥₁
 
 pub list-theorem : ListTheorem
@@ -62,11 +62,11 @@ list-theorem =
           λ a s hs j made ss held uss v h.
           let d = runs a s hs j made ss held uss v h in
           record {
-            answers = answersOf j (callsOf ss);
-            end = after j (callsOf ss);
+            answers = answersOf j (callsByAll ss);
+            end = after j (callsByAll ss);
             answered = d .1 .0;
             left = d .1 .1;
-            claim = claim a s hs j (d .0) (callsOf ss) held;
+            claim = claim a s hs j (d .0) (callsByAll ss) held;
           };
       runs-met = every-stretch-runs;
     }

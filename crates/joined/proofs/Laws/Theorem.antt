@@ -1,6 +1,6 @@
 -- DEMAND 3: for every airframe, every accepted settings and every list of calls, by value or through the entry, what the functions answer and leave meets the claim of specs/List.antt.
 -- It is said twice: of whatever the functions' contracts let them hand back (`Chain`), and of what their routines do on the machine (`RanAll`: calls by value, and steps on a record that
--- stays in memory, in any mixture); and for every list there are such results and such runs.
+-- is newly made for them and stays in memory, in any mixture); and for every list there are such results and such runs.
 -- Both layers give document 01's answers and state (Chains, Stretches), of which the claim is proved (Every). Assumes nothing.
 use mathlib.Core.Path.{_≡_, sym, subst}
 use mathlib.Core.List.{List}

@@ -17,7 +17,6 @@ pub mod Tight
 pub mod Abandonments
 pub mod Answers
 pub mod GivenReasons
-pub mod Taken
 pub mod Chains
 pub mod Values
 pub mod Returned

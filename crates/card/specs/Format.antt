@@ -7,7 +7,6 @@ use lib.Dec.{eqb, leb}
 use Rattle.numbers.specs.Numbers.{if_then_else_}
 use Rattle.machines.specs.declared.VehicleState.{VehicleState}
 use Rattle.machines.specs.declared.ModeRefusal.the-variants as reason
-use Rattle.machines.specs.Refusals.{fieldOf}
 use Rattle.joined.specs.declared.settings.Settings.{Settings}
 use Rattle.joined.specs.declared.call.StepInput.{StepInput}
 use Rattle.joined.specs.declared.call.Call.{Call}
@@ -87,10 +86,10 @@ abbrev pub isKnown : Record → Bool
 isKnown (says.Known c) = true
 isKnown says.Unknown = false
 
--- ---- the header, by the making of its machine; a making that is refused is refused with 3 in every case (law `always-three`, Headers.antt)
+-- ---- the header, by the making of its machine; a making that is refused is refused with 3 (law `header-three`, Headers.antt)
 abbrev pub headerFor : NewJoined → Header
 headerFor (made.Joined j) = header.Joined j
-headerFor (made.Refused why) = header.Refused (refusal.Setting (fieldOf why))
+headerFor (made.Refused why) = header.Refused (refusal.Header why)
 
 -- "Record 0 is the header: kind 5 tailsitter, 6 quadplane; numbers are settings. .. Other options and the header's are 0." Tested in the order "header 10, header 3"
 unfoldable pub headerOf : List ℕ → Header

@@ -1,12 +1,10 @@
 -- Document 01, section 7: the transcript of a card. Definitions only. Assumes nothing.
 -- The card is decoded (a machine by its header, calls by the records of its chain), the calls are answered by document 01 (`answersOf` of the joined machine), and the answers are
 -- printed, each with its record's index.
-use Prim.Native.Nat.{ℕ, _≤_}
+use Prim.Native.Nat.{ℕ}
 use mathlib.Core.Path.{_≡_}
 use mathlib.Core.List.{List, [], _∷_, _++_}
 use lib.ListN.{length, drop}
-use lib.Dec.{leb}
-use Rattle.numbers.specs.Numbers.{if_then_else_}
 use Rattle.joined.specs.declared.call.Call.{Call}
 use Rattle.joined.specs.declared.answer.Answer.{Answer}
 use Rattle.joined.specs.declared.joined.Joined.{Joined}
@@ -23,8 +21,6 @@ use Rattle.card.specs.declared.record.Header.{Header}
 use Rattle.card.specs.declared.record.Header.the-variants as header
 use Rattle.card.specs.declared.chain.Checked.{Checked}
 use Rattle.card.specs.declared.chain.Checked.the-variants as checked
-use Rattle.card.specs.declared.run.Ran.{Ran}
-use Rattle.card.specs.declared.run.Ran.the-variants as ran
 
 -- ---- the calls of the records passed, the last one first. A record that is no call adds none; a chain has none such (law `known`, Calls.antt)
 abbrev pub withCall : Record → List Call → List Call
@@ -61,25 +57,17 @@ transcriptOf card m = transcriptBy card (headerOf card) (outcomeOf card m .answe
 
 -- ---- what a run answers, and what it leaves of the marks m and of the buffer d
 pub record Run : Type 0 where
-  pub answer : Ran
+  pub answer : ℕ
   pub marks : List ℕ
   pub out : List ℕ
 
--- With fewer than 32,000 bytes of room nothing is touched. Else the transcript stands at the start of the buffer, and the rest of it stays; there is room for any transcript
+-- The transcript stands at the start of the buffer, and the rest of it stays. The answer is the transcript's length. The buffer has 32,000 bytes, by the type of `run`, and these are room for any transcript
 -- (law `transcript-fits`, Room.antt): at most 799 lines of at most 40 bytes and an end of at most 8
 abbrev pub runOf : List ℕ → List ℕ → List ℕ → Run
-runOf card m d =
-    if leb 32000 (length d) then
-    record { answer = ran.Wrote (length (transcriptOf card m)); marks = outcomeOf card m .marks; out = transcriptOf card m ++ drop (length (transcriptOf card m)) d }
-    else record { answer = ran.NoRoom; marks = m; out = d }
+runOf card m d = record { answer = length (transcriptOf card m); marks = outcomeOf card m .marks; out = transcriptOf card m ++ drop (length (transcriptOf card m)) d }
 
 -- the answer r, with the marks m and the buffer d left behind, is this run
-pub record Runs (run : Run) (r : Ran) (m d : List ℕ) : Type 0 where
+pub record Runs (run : Run) (r : ℕ) (m d : List ℕ) : Type 0 where
   pub answers : r ≡ run .answer
   pub marks : m ≡ run .marks
   pub writes : d ≡ run .out
-
--- as many bytes as a run says that it wrote are there
-abbrev pub Fits : Ran → List ℕ → Type 0
-Fits (ran.Wrote n) d = n ≤ length d
-Fits ran.NoRoom d = Unit {0}

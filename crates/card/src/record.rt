@@ -197,7 +197,7 @@ fn header_for(card: &[u8], airframe: Airframe) -> Header
     let made = Joined::new(airframe, settings_at(card, 0));
     match made {
         NewJoined::Joined(joined) => Header::Joined(joined),
-        NewJoined::Refused(why) => Header::Refused(CardRefusal::Setting(why.field())),
+        NewJoined::Refused(why) => Header::Refused(CardRefusal::Header(why)),
     }
 }
 

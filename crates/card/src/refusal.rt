@@ -1,10 +1,11 @@
 // Why a card is turned down (document 01, section 9).
+use machines::InputRefusal;
 ghost use mathlib.Core.Path.{_≡_};
 ghost use Rattle.card.specs.CardRefusals.{cardRefusalOf, cardFieldOf};
 
-// 3 and 6 to 10 of section 9. A setting has its field, from 1.
+// The refusal of the header's settings, a 3 with its field, and 6 to 10 of section 9.
 pub enum CardRefusal {
-    Setting(u8),
+    Header(InputRefusal),
     Length,
     Marks,
     NextIndex,
@@ -18,7 +19,7 @@ impl CardRefusal {
         ensures { λ r. ⌜ r ≡ cardRefusalOf self ⌝ }
     {
         match self {
-            CardRefusal::Setting(_) => 3,
+            CardRefusal::Header(why) => why.number(),
             CardRefusal::Length => 6,
             CardRefusal::Marks => 7,
             CardRefusal::NextIndex => 8,
@@ -32,7 +33,7 @@ impl CardRefusal {
         ensures { λ r. ⌜ r ≡ cardFieldOf self ⌝ }
     {
         match self {
-            CardRefusal::Setting(field) => field,
+            CardRefusal::Header(why) => why.field(),
             CardRefusal::Length => 0,
             CardRefusal::Marks => 0,
             CardRefusal::NextIndex => 0,

@@ -19,14 +19,7 @@ ghost use Rattle.joined.specs.List.{after};
 ghost use Rattle.card.specs.Format.{headerOf};
 ghost use Rattle.card.specs.Chain.{whole, chainOf};
 ghost use Rattle.card.specs.Text.{endLine, Written};
-ghost use Rattle.card.specs.Transcript.{callsOf, runLines, transcriptBy, runOf, Runs, Fits};
-
-// How many bytes a run wrote; or that the buffer has fewer than 32,000, and nothing was touched.
-// A transcript has at most 799 lines of at most 40 bytes and an end of at most 8.
-pub enum Ran {
-    Wrote(usize),
-    NoRoom,
-}
+ghost use Rattle.card.specs.Transcript.{callsOf, runLines, transcriptBy, runOf, Runs};
 
 // The state after a record, and the index after its line.
 struct RecordUpdate {
@@ -84,17 +77,15 @@ fn run_checked(card: &[u8], out: &mut [u8], count: usize) -> usize
     }
 }
 
-// Checks a card and runs it: the transcript goes to the start of `out`, and the rest of `out` stays.
-pub fn run(card: &[u8], marks: &mut [u8], out: &mut [u8]) -> Ran
+// Checks a card and runs it: the transcript goes to the start of `out`, and the rest of `out` stays. Hands back the transcript's length.
+// There is room for any: a transcript has at most 799 lines of at most 40 bytes and an end of at most 8.
+pub fn run(card: &[u8], marks: &mut [u8], out: &mut [u8; 32_000]) -> usize
     ensures { λ r. ⌜ Runs (runOf (now (card .entry)) (now (marks .entry)) (now (out .entry))) r (now (marks .exit)) (now (out .exit)) ⌝ }
-    ensures { λ r. ⌜ Fits r (now (out .exit)) ⌝ }
+    ensures { λ r. ⌜ r ≤ length (now (out .exit)) ⌝ }
 {
-    if out.len() < 32_000 {
-        return Ran::NoRoom;
-    }
     let checked = check(card, marks);
     match checked {
-        Checked::Walk(count) => Ran::Wrote(run_checked(card, out, count)),
-        Checked::Refused(why) => Ran::Wrote(card_line(out, 0, why)),
+        Checked::Walk(count) => run_checked(card, out, count),
+        Checked::Refused(why) => card_line(out, 0, why),
     }
 }

@@ -12,6 +12,7 @@ pub mod Stays
 pub mod Lines
 pub mod Every
 pub mod Starred
+pub mod Flights
 pub mod WrongTurns
 pub mod Tight
 pub mod Abandonments
@@ -21,7 +22,6 @@ pub mod Chains
 pub mod Values
 pub mod Returned
 pub mod InPlace
-pub mod Read
 pub mod Runs
 pub mod InRecord
 pub mod Stretches

@@ -18,7 +18,7 @@ use machines::deceleration::BackDeceleration;
 use machines::handoff::ThrustHandoff;
 use numbers::ranges::is_positive;
 ghost use mathlib.Core.Path.{_≡_};
-ghost use Rattle.joined.specs.Joined.{initial, newOf, answered, refusedBy, answeredIf, handoffIf, stepped, steppedBy, stepOf, primeOf, cutOf, setOf, callOf, EntrySays};
+ghost use Rattle.joined.specs.Joined.{initial, newOf, answered, refusedBy, answeredIf, handoffIf, stepped, steppedIf, stepOf, primeOf, cutOf, setOf, callOf, EntrySays};
 
 // The state. What it holds is nobody else's to write.
 pub struct Joined {
@@ -100,7 +100,7 @@ impl Joined {
 
     // By the machine's answer: the state as it was, or the next one with the line that shows it.
     fn answered_if(self, answer: TransitionAnswer, next: Joined) -> JoinedUpdate
-        ensures { λ r. ⌜ r ≡ answeredIf answer self (λ s. next) ⌝ }
+        ensures { λ r. ⌜ r ≡ answeredIf answer self next ⌝ }
     {
         match answer {
             TransitionAnswer::Step(step) => next.answered(step),
@@ -141,7 +141,7 @@ impl Joined {
 
     // The update of a step, with what becomes of handoff, pitch and thrust.
     fn stepped_by(self, update: MachineUpdate, input: StepInput) -> JoinedUpdate
-        ensures { λ r. ⌜ r ≡ steppedBy self update input ⌝ }
+        ensures { λ r. ⌜ r ≡ steppedIf (update .answer) self (update .machine) input ⌝ }
     {
         let machine = update.machine;
         let answer = update.answer;

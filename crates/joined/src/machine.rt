@@ -14,8 +14,8 @@ use machines::vtol::TransitionUpdate;
 use numbers::logic::both;
 ghost use mathlib.Core.Path.{_≡_};
 ghost use Rattle.joined.specs.declared.machine.Airframe.the-variants as airframe;
-ghost use Rattle.joined.specs.Joined.{cutOr};
-ghost use Rattle.joined.specs.Machine.{newMachineOf, modeOf, primeMachineOf, setMachineOf, updateMachineOf, cutMachineOf, handoffTimeOf, rollLimitOf, transitioning, absOf, pastRollLimitOf, ofTransition, ofLift};
+ghost use Rattle.numbers.specs.Numbers.{if_then_else_};
+ghost use Rattle.joined.specs.Machine.{newMachineOf, modeOf, primeMachineOf, setMachineOf, updateMachineOf, cutMachineOf, handoffTimeOf, rollLimitOf, transitioning, absOf, pastRollLimitOf, ofTransition, ofLift, accepted};
 
 // Which aircraft: fixed when the joined machine is made.
 pub enum Airframe {
@@ -44,7 +44,7 @@ pub(crate) enum NewMachine {
 impl MachineUpdate {
     // This update, or the machine cut short if it has rolled past the limit in a transition.
     pub(crate) fn cut_or(self, machine: Machine, bank_rad: f32) -> MachineUpdate
-        ensures { λ r. ⌜ r ≡ cutOr machine «bank_rad» self ⌝ }
+        ensures { λ r. ⌜ r ≡ (if pastRollLimitOf machine «bank_rad» then accepted (cutMachineOf machine ModeRefusal.RollError) else self) ⌝ }
     {
         if machine.past_roll_limit(bank_rad) {
             machine.cut_short(ModeRefusal::RollError)
@@ -170,7 +170,7 @@ impl Machine {
 
     // Copter, with z as the height reference.
     pub(crate) fn prime(self, z_m: f32) -> MachineUpdate
-        ensures { λ r. ⌜ r ≡ primeMachineOf self «z_m» ⌝ }
+        ensures { λ r. ⌜ r ≡ accepted (primeMachineOf self «z_m») ⌝ }
     {
         match self {
             Machine::Tailsitter(m) => of_transition(m.prime(z_m)),
@@ -178,7 +178,7 @@ impl Machine {
         }
     }
 
-    // New settings, or refusal 3.
+    // New settings, or their refusal.
     pub(crate) fn set_config(self, settings: Settings) -> MachineUpdate
         ensures { λ r. ⌜ r ≡ setMachineOf self settings ⌝ }
     {
@@ -204,7 +204,7 @@ impl Machine {
 
     // Cuts a transition short.
     pub(crate) fn cut_short(self, why: ModeRefusal) -> MachineUpdate
-        ensures { λ r. ⌜ r ≡ cutMachineOf self why ⌝ }
+        ensures { λ r. ⌜ r ≡ accepted (cutMachineOf self why) ⌝ }
     {
         match self {
             Machine::Tailsitter(m) => of_transition(m.cut_short(why)),

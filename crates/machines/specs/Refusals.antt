@@ -1,5 +1,10 @@
--- Document 01's numbers: section 9 for what the input brings (1 to 5), section 10 for what the state holds back. Definitions only. Assumes nothing.
+-- Document 01's numbers: section 9 for what the input brings (1 to 5), section 10 for what the state holds back; and which updates are turned down. Definitions only. Assumes nothing.
+use mathlib.Core.Bool.{Bool, not}
+use mathlib.Core.Option.{Option, some, none}
 use Prim.Native.Nat.{ℕ}
+use lib.Ieee.{Float}
+use Rattle.numbers.specs.Numbers.{if_then_else_}
+use Rattle.numbers.specs.Ranges.{positive}
 use Rattle.machines.specs.declared.ModeRefusal.{ModeRefusal}
 use Rattle.machines.specs.declared.ModeRefusal.the-variants.{Unsupported, OnGround, BelowMinAltitude, TransitionTimeout, RollError, BelowPlaneMinAltitude}
 use Rattle.machines.specs.declared.MaybeRefusal.{MaybeRefusal}
@@ -22,6 +27,15 @@ fieldOf EntryTilt = 0
 fieldOf (Setting field) = field
 fieldOf HandoffDuration = 0
 fieldOf Tangent = 0
+
+-- ---- "a step checks 1, 2": the refusal of an update by dt, if any; `badTilt` says whether its entry tilt is refused (the tailsitter's alone)
+abbrev pub updateRefusal : Float → Bool → Option InputRefusal
+updateRefusal dt badTilt = if not (positive dt) then some TimeStep else if badTilt then some EntryTilt else none
+
+-- what a refusal gives, or else what the call gives
+abbrev pub refusedOr : {A : Type 0} → Option InputRefusal → (InputRefusal → A) → A → A
+refusedOr (some why) refused taken = refused why
+refusedOr none refused taken = taken
 
 -- section 10: "11 Unsupported, 12 OnGround .., 13 BelowMinAltitude, 14 TransitionTimeout, 15 RollError, 16 BelowPlaneMinAltitude"
 abbrev pub reasonOf : ModeRefusal → ℕ

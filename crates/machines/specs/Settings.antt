@@ -1,69 +1,98 @@
 -- Document 01, section 2: the settings, and those of the split (section 8). Definitions only. Assumes nothing.
-use mathlib.Core.Bool.{Bool, true, false}
+use mathlib.Core.Bool.{Bool}
+use mathlib.Core.List.{List, [], _∷_}
 use Prim.Native.Nat.{ℕ}
-use Rattle.numbers.specs.Numbers.{floatOf, zero32}
+use Rattle.numbers.specs.Numbers.{if_then_else_, floatOf, zero32}
 use Rattle.numbers.specs.Ranges.{limit, positive, unit, unitAboveZero, quarterTurn, quarterTurnClosed, quarterTurnFromZero, halfTurn}
+use Rattle.machines.specs.declared.InputRefusal.{InputRefusal}
+use Rattle.machines.specs.declared.InputRefusal.the-variants.{Setting}
 use Rattle.machines.specs.declared.settings.Validity.{Validity}
 use Rattle.machines.specs.declared.settings.Validity.the-variants.{Valid, Bad}
+use Rattle.machines.specs.declared.settings.FirstBad.{FirstBad}
+use Rattle.machines.specs.declared.settings.FirstBad.the-variants as first
 use Rattle.machines.specs.declared.settings.TransitionConfig.{TransitionConfig}
 use Rattle.machines.specs.declared.settings.LiftTransitionConfig.{LiftTransitionConfig}
 use Rattle.machines.specs.declared.settings.ForwardThrustConfig.{ForwardThrustConfig}
 
--- "fields are checked in the order of the struct, the first bad one named by position from 1": what is found so far, and field n after it
-infixl 10 _field_is_
-abbrev pub _field_is_ : Validity → ℕ → Bool → Validity
-Valid field n is true = Valid
-Valid field n is false = Bad n
-Bad first field n is good = Bad first
+-- ---- a check of settings: tests in their order, each with the refusal that its failing gives
+pub record Test : Type 0 where
+  pub passed : Bool
+  pub refusal : InputRefusal
+
+-- "fields are checked in the order of the struct": the first test that fails decides
+abbrev pub verdict : List Test → Validity
+verdict [] = Valid
+verdict (t ∷ ts) = if t .passed then verdict ts else Bad (t .refusal)
+
+-- "the first bad one named by position from 1": field n is in its range, or refused by 3 with n
+infix 90 field_is_
+abbrev pub field_is_ : ℕ → Bool → Test
+field n is good = record { passed = good; refusal = Setting n }
 
 -- "tailsitter: 1, 5, 7 positive; 2, 6 in (0, π/2); 3 in (0, π/2]; 4, 8, 9, 12, 13, 14 limits; 10, 11 in [0, 1]; 15 in (0, π]; added 16, 17 in (0, 1]"
-abbrev pub transitionValidity : TransitionConfig → Validity
-transitionValidity c =
-    Valid
+abbrev pub transitionTests : TransitionConfig → List Test
+transitionTests c =
     field 1 is positive (c .«forward_rate_radps»)
-    field 2 is quarterTurn (c .«forward_done_rad»)
-    field 3 is quarterTurnClosed (c .«forward_max_tilt_rad»)
-    field 4 is limit (c .«min_airspeed_mps»)
-    field 5 is positive (c .«back_rate_radps»)
-    field 6 is quarterTurn (c .«back_done_rad»)
-    field 7 is positive (c .«timeout_s»)
-    field 8 is limit (c .«min_height_m»)
-    field 9 is limit (c .«plane_min_height_m»)
-    field 10 is unit (c .«forward_thrust»)
-    field 11 is unit (c .«back_thrust»)
-    field 12 is limit (c .«back_sink_limit_mps»)
-    field 13 is limit (c .«back_sink_gain»)
-    field 14 is limit (c .«handoff_s»)
-    field 15 is halfTurn (c .«roll_limit_rad»)
-    field 16 is unitAboveZero (c .«forward_done_cosine»)
-    field 17 is unitAboveZero (c .«back_done_cosine»)
+    ∷ field 2 is quarterTurn (c .«forward_done_rad»)
+    ∷ field 3 is quarterTurnClosed (c .«forward_max_tilt_rad»)
+    ∷ field 4 is limit (c .«min_airspeed_mps»)
+    ∷ field 5 is positive (c .«back_rate_radps»)
+    ∷ field 6 is quarterTurn (c .«back_done_rad»)
+    ∷ field 7 is positive (c .«timeout_s»)
+    ∷ field 8 is limit (c .«min_height_m»)
+    ∷ field 9 is limit (c .«plane_min_height_m»)
+    ∷ field 10 is unit (c .«forward_thrust»)
+    ∷ field 11 is unit (c .«back_thrust»)
+    ∷ field 12 is limit (c .«back_sink_limit_mps»)
+    ∷ field 13 is limit (c .«back_sink_gain»)
+    ∷ field 14 is limit (c .«handoff_s»)
+    ∷ field 15 is halfTurn (c .«roll_limit_rad»)
+    ∷ field 16 is unitAboveZero (c .«forward_done_cosine»)
+    ∷ field 17 is unitAboveZero (c .«back_done_cosine»)
+    ∷ []
+
+abbrev pub transitionValidity : TransitionConfig → Validity
+transitionValidity c = verdict (transitionTests c)
 
 -- "quadplane: 2, 3, 6, 8, 12 positive; 1, 4, 5, 7, 9, 10, 14 limits; 11 in [0, 1]; 13 in (0, π/2); 15 in (0, π]"
-abbrev pub liftValidity : LiftTransitionConfig → Validity
-liftValidity c =
-    Valid
+abbrev pub liftTests : LiftTransitionConfig → List Test
+liftTests c =
     field 1 is limit (c .«min_airspeed_mps»)
-    field 2 is positive (c .«lift_ramp_s»)
-    field 3 is positive (c .«timeout_s»)
-    field 4 is limit (c .«min_height_m»)
-    field 5 is limit (c .«plane_min_height_m»)
-    field 6 is positive (c .«back_ramp_s»)
-    field 7 is limit (c .«back_speed_mps»)
-    field 8 is positive (c .«back_timeout_s»)
-    field 9 is limit (c .«back_decel_mps2»)
-    field 10 is limit (c .«back_decel_i»)
-    field 11 is unit (c .«forward_thrust»)
-    field 12 is positive (c .«pusher_slew_per_s»)
-    field 13 is quarterTurn (c .«forward_pitch_max_rad»)
-    field 14 is limit (c .«handoff_s»)
-    field 15 is halfTurn (c .«roll_limit_rad»)
+    ∷ field 2 is positive (c .«lift_ramp_s»)
+    ∷ field 3 is positive (c .«timeout_s»)
+    ∷ field 4 is limit (c .«min_height_m»)
+    ∷ field 5 is limit (c .«plane_min_height_m»)
+    ∷ field 6 is positive (c .«back_ramp_s»)
+    ∷ field 7 is limit (c .«back_speed_mps»)
+    ∷ field 8 is positive (c .«back_timeout_s»)
+    ∷ field 9 is limit (c .«back_decel_mps2»)
+    ∷ field 10 is limit (c .«back_decel_i»)
+    ∷ field 11 is unit (c .«forward_thrust»)
+    ∷ field 12 is positive (c .«pusher_slew_per_s»)
+    ∷ field 13 is quarterTurn (c .«forward_pitch_max_rad»)
+    ∷ field 14 is limit (c .«handoff_s»)
+    ∷ field 15 is halfTurn (c .«roll_limit_rad»)
+    ∷ []
+
+abbrev pub liftValidity : LiftTransitionConfig → Validity
+liftValidity c = verdict (liftTests c)
 
 -- the split (section 8): "1 gain a limit, 2 limit in [0, π/2)"
+abbrev pub forwardThrustTests : ForwardThrustConfig → List Test
+forwardThrustTests c = field 1 is limit (c .gain) ∷ field 2 is quarterTurnFromZero (c .«pitch_limit_rad») ∷ []
+
 abbrev pub forwardThrustValidity : ForwardThrustConfig → Validity
-forwardThrustValidity c =
-    Valid
-    field 1 is limit (c .gain)
-    field 2 is quarterTurnFromZero (c .«pitch_limit_rad»)
+forwardThrustValidity c = verdict (forwardThrustTests c)
+
+-- ---- as the code takes the tests, one after the other: the first bad field so far, with field n after it; and the verdict by it. It is the verdict above (law `in-turn`,
+-- proofs/Laws/Verdicts.antt)
+abbrev pub firstBad : FirstBad → ℕ → Bool → FirstBad
+firstBad first.None n good = if good then first.None else first.Field n
+firstBad (first.Field k) n good = first.Field k
+
+abbrev pub verdictOn : FirstBad → Validity
+verdictOn first.None = Valid
+verdictOn (first.Field k) = Bad (Setting k)
 
 -- ---- the Rust's default settings, by their bits; 16 and 17 are the cosine of the default done angles
 abbrev pub transitionDefault : TransitionConfig

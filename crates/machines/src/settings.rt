@@ -1,4 +1,5 @@
 // The settings (document 01, section 2): `TransitionConfig` of the Rust's vtol.rs with the two done cosines, `LiftTransitionConfig` of lift.rs, `ForwardThrustConfig` of forward.rs.
+use crate::InputRefusal;
 use numbers::ranges::is_half_turn;
 use numbers::ranges::is_limit;
 use numbers::ranges::is_positive;
@@ -8,7 +9,7 @@ use numbers::ranges::is_quarter_turn_from_zero;
 use numbers::ranges::is_unit;
 use numbers::ranges::is_unit_above_zero;
 ghost use mathlib.Core.Path.{_≡_};
-ghost use Rattle.machines.specs.Settings.{_field_is_, transitionValidity, liftValidity, forwardThrustValidity, transitionDefault, liftDefault};
+ghost use Rattle.machines.specs.Settings.{firstBad, verdictOn, transitionValidity, liftValidity, forwardThrustValidity, transitionDefault, liftDefault};
 
 // The tailsitter's settings, 1 to 17. Tilts are the nose's angle from vertical. 16 and 17 are the cosines of 2 and 6, and are what the machine compares with:
 // 2 and 6 themselves are checked and not read. 10 to 15 are read by the joined machine. A floor (9) or a sink limit (12) of 0 is off.
@@ -58,26 +59,42 @@ pub struct ForwardThrustConfig {
     pub pitch_limit_rad: f32,
 }
 
-// What a check of settings finds: the first bad field, by its position from 1.
+// What a check of settings finds: that they are good, or the refusal of the first test that fails.
 pub enum Validity {
     Valid,
-    Bad(u8),
+    Bad(InputRefusal),
 }
 
-impl Validity {
+// The first bad field of those that were looked at, if any.
+pub(crate) enum FirstBad {
+    None,
+    Field(u8),
+}
+
+impl FirstBad {
     // What is found so far, and field n after it.
-    fn then(self, n: u8, good: bool) -> Validity
-        ensures { λ r. ⌜ r ≡ (self field n is good) ⌝ }
+    fn then(self, n: u8, good: bool) -> FirstBad
+        ensures { λ r. ⌜ r ≡ firstBad self n good ⌝ }
     {
         match self {
-            Validity::Valid => {
+            FirstBad::None => {
                 if good {
-                    Validity::Valid
+                    FirstBad::None
                 } else {
-                    Validity::Bad(n)
+                    FirstBad::Field(n)
                 }
             }
-            Validity::Bad(first) => Validity::Bad(first),
+            FirstBad::Field(first) => FirstBad::Field(first),
+        }
+    }
+
+    // What a check finds by it.
+    fn verdict(self) -> Validity
+        ensures { λ r. ⌜ r ≡ verdictOn self ⌝ }
+    {
+        match self {
+            FirstBad::None => Validity::Valid,
+            FirstBad::Field(n) => Validity::Bad(InputRefusal::Setting(n)),
         }
     }
 }
@@ -108,7 +125,7 @@ impl TransitionConfig {
     pub fn validate(self) -> Validity
         ensures { λ r. ⌜ r ≡ transitionValidity self ⌝ }
     {
-        let c = Validity::Valid;
+        let c = FirstBad::None;
         let c = c.then(1, is_positive(self.forward_rate_radps));
         let c = c.then(2, is_quarter_turn(self.forward_done_rad));
         let c = c.then(3, is_quarter_turn_closed(self.forward_max_tilt_rad));
@@ -126,7 +143,7 @@ impl TransitionConfig {
         let c = c.then(15, is_half_turn(self.roll_limit_rad));
         let c = c.then(16, is_unit_above_zero(self.forward_done_cosine));
         let c = c.then(17, is_unit_above_zero(self.back_done_cosine));
-        c
+        c.verdict()
     }
 
     // The default settings: which numbers they are is promised here.
@@ -161,7 +178,7 @@ impl LiftTransitionConfig {
     pub fn validate(self) -> Validity
         ensures { λ r. ⌜ r ≡ liftValidity self ⌝ }
     {
-        let c = Validity::Valid;
+        let c = FirstBad::None;
         let c = c.then(1, is_limit(self.min_airspeed_mps));
         let c = c.then(2, is_positive(self.lift_ramp_s));
         let c = c.then(3, is_positive(self.timeout_s));
@@ -177,7 +194,7 @@ impl LiftTransitionConfig {
         let c = c.then(13, is_quarter_turn(self.forward_pitch_max_rad));
         let c = c.then(14, is_limit(self.handoff_s));
         let c = c.then(15, is_half_turn(self.roll_limit_rad));
-        c
+        c.verdict()
     }
 
     // The default settings: which numbers they are is promised here.
@@ -193,9 +210,9 @@ impl ForwardThrustConfig {
     pub fn validate(self) -> Validity
         ensures { λ r. ⌜ r ≡ forwardThrustValidity self ⌝ }
     {
-        let c = Validity::Valid;
+        let c = FirstBad::None;
         let c = c.then(1, is_limit(self.gain));
         let c = c.then(2, is_quarter_turn_from_zero(self.pitch_limit_rad));
-        c
+        c.verdict()
     }
 }

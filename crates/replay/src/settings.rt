@@ -61,11 +61,18 @@ pub(crate) fn split(b: &[u8; 80]) -> ForwardThrustConfig {
     }
 }
 
-// The first bad field, or 0.
+// The first bad field, or 0; or the refusal of another test.
 fn validity(v: Validity) {
     match v {
         Validity::Valid => show::count(0, END),
-        Validity::Bad(field) => show::count(field, END),
+        Validity::Bad(why) => {
+            let field = why.field();
+            if field > 0 {
+                show::count(field, END);
+            } else {
+                show::refused(why);
+            }
+        }
     }
 }
 

@@ -1,11 +1,9 @@
 // Reads a list of cards from standard input, and writes the transcript of each to standard output, one after the other.
 // Before a card stands its length, a little-endian u32. A length past 65,536 counts as that; a card that is cut off ends the list.
-use card::run::Ran;
 use card::run::run;
 use libc::STDIN_FILENO;
 use libc::STDOUT_FILENO;
 use numbers::bits::from_le_bytes;
-ghost use Rattle.card.specs.Transcript.{Fits};
 
 // The length of the next card; -1 at the end of the list.
 fn next_length() -> isize {
@@ -16,25 +14,12 @@ fn next_length() -> isize {
     from_le_bytes(b[0], b[1], b[2], b[3]) as isize
 }
 
-// Writes what a run left at the start of `out`.
-fn print(out: &[u8], ran: Ran)
-    requires { ⌜ Fits ran (now out) ⌝ }
-{
-    match ran {
-        Ran::Wrote(n) => {
-            io::write_all(STDOUT_FILENO, &out[..n]);
-        }
-        // not met: `run_card` has the room
-        Ran::NoRoom => {}
-    }
-}
-
 // Runs a card and writes its transcript.
 fn run_card(card: &[u8]) {
     let mut marks = [0u8; 800];
     let mut out = [0u8; 32_000];
-    let ran = run(card, &mut marks, &mut out);
-    print(&out, ran);
+    let n = run(card, &mut marks, &mut out);
+    io::write_all(STDOUT_FILENO, &out[..n]);
 }
 
 // Reads a card of that length, and answers whether all of it came.

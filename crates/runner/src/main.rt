@@ -1,11 +1,9 @@
 // Reads a card from standard input, and writes the transcript of its run to standard output (document 01, section 7).
 // An input that cannot be read to its end is not run. That, and an output that cannot be written, is said on standard error.
-use card::run::Ran;
 use card::run::run;
 use libc::STDIN_FILENO;
 use libc::STDOUT_FILENO;
 ghost use Rattle.io.specs.Counts.{Counts};
-ghost use Rattle.card.specs.Transcript.{Fits};
 
 // How many bytes were read before the input ended or the buffer was full, and whether a read failed.
 struct Input {
@@ -42,23 +40,12 @@ fn put(text: &[u8]) {
     }
 }
 
-// Writes what a run left at the start of `out`.
-fn print(out: &[u8], ran: Ran)
-    requires { ⌜ Fits ran (now out) ⌝ }
-{
-    match ran {
-        Ran::Wrote(n) => put(&out[..n]),
-        // not met: `run_card` has the room
-        Ran::NoRoom => {}
-    }
-}
-
 // Runs a card and writes its transcript.
 fn run_card(card: &[u8]) {
     let mut marks = [0u8; 800];
     let mut out = [0u8; 32_000];
-    let ran = run(card, &mut marks, &mut out);
-    print(&out, ran);
+    let n = run(card, &mut marks, &mut out);
+    put(&out[..n]);
 }
 
 // One byte more than the longest card is asked for, so that a longer one is refused.

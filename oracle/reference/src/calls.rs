@@ -1,7 +1,8 @@
 //! The answers to a list of calls: each record is one call of a helper or of a machine of the Rust and gives one line.
 
 use crate::card::{RECORD_BYTES, Record, bits, mode_letter, refused};
-use crate::machine::{Airframe, Machine, Moved, Refusal, goes_through, good_dt, reason};
+use crate::joined::Line;
+use crate::machine::{Airframe, Machine, Moved, Refusal, caught, good_dt, reason};
 use crate::settings::{bad_field, defaults, split_bad_field};
 use nalgebra::UnitQuaternion;
 use stable_flight::guidance::vtol::{ForwardThrust, ForwardThrustConfig, ThrustHandoff};
@@ -180,25 +181,21 @@ impl Kept {
     fn thrust_line(&mut self, r: &Record) -> String {
         let (a, b) = (r.number(1), r.number(2));
         match r.kind() {
-            30 if !goes_through(|| {
-                ThrustHandoff::new(a);
-            }) =>
-            {
-                refused(Refusal::Number(4))
-            }
-            30 => {
-                self.handoff = ThrustHandoff::new(a);
-                self.active()
-            }
+            30 => match caught(|| ThrustHandoff::new(a)) {
+                Some(handoff) => {
+                    self.handoff = handoff;
+                    self.active()
+                }
+                None => refused(Refusal::Number(4)),
+            },
             31 => {
                 self.handoff.start(a);
                 self.active()
             }
-            32 if !good_dt(a) => refused(Refusal::Number(1)),
-            32 => {
-                let thrust = self.handoff.apply(a, b);
-                format!("{} {}", word(thrust), self.active())
-            }
+            32 => match caught(|| self.handoff.apply(a, b)) {
+                Some(thrust) => format!("{} {}", word(thrust), self.active()),
+                None => refused(Refusal::Number(1)),
+            },
             _ => word_or_none(open::guard_sink(a, b, r.number(3), r.number(4))),
         }
     }
@@ -232,12 +229,13 @@ impl Kept {
             return self.split(r.number(1), r.number(2));
         }
         let config = split_config(r);
-        match split_bad_field(&config) {
-            0 => {}
-            field => return refused(Refusal::Setting(field)),
+        match caught(|| ForwardThrust::new(config)) {
+            Some(split) => {
+                self.split = split;
+                u8::from(split.enabled()).to_string()
+            }
+            None => refused(Refusal::Setting(split_bad_field(&config))),
         }
-        self.split = ForwardThrust::new(config);
-        u8::from(self.split.enabled()).to_string()
     }
 
     fn split(&self, pitch_rad: f32, tangent: f32) -> String {
@@ -424,6 +422,11 @@ fn new_machine_line(machine: &mut Machine, r: &Record) -> String {
         }
         Err(refusal) => refused(refusal),
     }
+}
+
+/// The words of a line of the joined machine.
+pub fn line_words(line: &Line) -> String {
+    format!("{} {}", moved_words(&line.moved), words(&[line.thrust, line.pitch_rad]))
 }
 
 fn moved_words(moved: &Moved) -> String {

@@ -30,6 +30,15 @@ pub fn record_bytes(kind: u8, option: u8, numbers: &[f32]) -> RecordBytes {
     bytes
 }
 
+/// The airframe of a header, if the record is one.
+pub fn header_airframe(header: &Record) -> Option<Airframe> {
+    match (header.kind(), header.option()) {
+        (5, 0) => Some(Airframe::Tailsitter),
+        (6, 0) => Some(Airframe::Quadplane),
+        _ => None,
+    }
+}
+
 /// The header of an airframe.
 pub fn header_bytes(airframe: Airframe, settings: &Settings) -> RecordBytes {
     record_bytes(header_kind(airframe), 0, settings)
@@ -92,7 +101,7 @@ impl Record<'_> {
         }
     }
 
-    fn call(&self) -> Call {
+    pub fn call(&self) -> Call {
         match self.kind() {
             1 => Call::Prime(self.number(2)),
             2 => Call::Step(self.step()),
@@ -127,10 +136,8 @@ pub fn check(card: &[u8], marks: &mut [u8]) -> Result<Checked, Refusal> {
     marks.fill(0);
     marks[0] = 1;
     let header = record(card, 0);
-    let airframe = match (header.kind(), header.option()) {
-        (5, 0) => Airframe::Tailsitter,
-        (6, 0) => Airframe::Quadplane,
-        _ => return Err(Refusal::Number(10)),
+    let Some(airframe) = header_airframe(&header) else {
+        return Err(Refusal::Number(10));
     };
     check_settings(airframe, &header.settings())?;
     let chain = chain(card, marks)?;
@@ -212,7 +219,7 @@ pub fn refused(refusal: Refusal) -> String {
 }
 
 /// The number of a refusal, and after 3 the field.
-fn refusal_words(refusal: Refusal) -> String {
+pub fn refusal_words(refusal: Refusal) -> String {
     match refusal {
         Refusal::Number(number) => number.to_string(),
         Refusal::Setting(field) => format!("3 {field}"),

@@ -10,6 +10,7 @@ mod flight;
 mod rows;
 mod usual;
 
+pub use chains::{LONGEST, SHORT_SHAPES};
 pub use classes::{ends, past_ends};
 
 use crate::card::in_order;
@@ -151,11 +152,23 @@ fn headers(mut random: Random, turn: u64) -> Vec<u8> {
 /// Every shape of a card in turn. Of the longest ones, few.
 fn shapes(random: Random, turn: u64) -> Vec<u8> {
     let (shape, lap) = (turn % chains::SHAPES, turn / chains::SHAPES);
-    let long = shape == chains::LONGEST || shape == chains::TOO_LONG;
-    let mut flight = new_flight(random, airframe_of(lap + turn / 3));
+    let long = shape >= SHORT_SHAPES;
+    let flight = short_flight(random, airframe_of(lap + turn / 3));
+    chains::shaped(flight, if long && lap % 4 != 0 { chains::SCATTERED } else { shape })
+}
+
+/// A flight of 3 to 12 records.
+fn short_flight(random: Random, airframe: Airframe) -> Flight {
+    let mut flight = new_flight(random, airframe);
     let records = 3 + flight.random.below(10);
     while flight.records.len() < records {
         flight.row();
     }
-    chains::shaped(flight, if long && lap % 4 != 0 { chains::SCATTERED } else { shape })
+    flight
+}
+
+/// A card of a shape.
+pub fn shape(seed: u64, shape: u64) -> Vec<u8> {
+    let random = Random::new(seed.wrapping_mul(chains::SHAPES) + shape);
+    chains::shaped(short_flight(random, airframe_of(shape)), shape)
 }

@@ -1,13 +1,15 @@
-//! The Rust reference: the joined machine, the card's transcript and the list of calls, over the unchanged text of stable-flight.
+//! The Rust reference: the joined machine, the card's check and transcript and the list of calls, over the unchanged text of stable-flight.
 
 pub mod call_list;
 pub mod calls;
 pub mod card;
 pub mod compare;
 pub mod coverage;
+pub mod entry;
 pub mod flights;
 pub mod joined;
 pub mod machine;
+pub mod marks;
 pub mod named;
 pub mod random;
 pub mod settings;

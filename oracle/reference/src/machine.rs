@@ -2,6 +2,7 @@
 
 use crate::settings::{Settings, bad_field, lift_transition_config, transition_config};
 use nalgebra::UnitQuaternion;
+use stable_flight::controllers::InvalidConfig;
 use stable_flight::guidance::vtol::{LiftTransition, LiftTransitionStep, Transition, TransitionStep};
 use stable_flight::{Configurable, FlightMode, FlightModeReport, FlightRegime, ModeRefusal, Vec3, VehicleState, open};
 use std::cell::Cell;
@@ -120,8 +121,8 @@ thread_local! {
     static EXPECTED: Cell<bool> = const { Cell::new(false) };
 }
 
-/// Whether the Rust goes through `call` without a panic. Such a panic is not printed; others are.
-pub fn goes_through(call: impl FnOnce() + panic::UnwindSafe) -> bool {
+/// What the Rust's `call` returns, or none if it panics. Such a panic is not printed; others are.
+pub fn caught<T>(call: impl FnOnce() -> T) -> Option<T> {
     static HOOK: Once = Once::new();
     HOOK.call_once(|| {
         let print = panic::take_hook();
@@ -132,14 +133,23 @@ pub fn goes_through(call: impl FnOnce() + panic::UnwindSafe) -> bool {
         }));
     });
     EXPECTED.set(true);
-    let answer = panic::catch_unwind(call);
+    let answer = panic::catch_unwind(panic::AssertUnwindSafe(call));
     EXPECTED.set(false);
-    answer.is_ok()
+    answer.ok()
 }
 
 /// Refusal 1: what the Rust's `assert_dt` does not let pass.
 pub fn good_dt(dt: f32) -> bool {
-    goes_through(|| open::assert_dt(dt))
+    caught(|| open::assert_dt(dt)).is_some()
+}
+
+/// What the Rust's own `call` makes of settings; refusal 3 if it turns them down. The two cosines are document 01's, so it alone refuses them.
+fn with_settings<T>(airframe: Airframe, s: &Settings, call: impl FnOnce() -> Option<T>) -> Result<T, Refusal> {
+    let found = check_settings(airframe, s);
+    if let Err(Refusal::Setting(16..)) = found {
+        found?;
+    }
+    call().ok_or_else(|| found.expect_err("settings that were found good are turned down"))
 }
 
 /// The reasons of section 10, with their numbers.
@@ -169,11 +179,14 @@ pub fn report_number(report: Option<ModeRefusal>) -> u8 {
 
 impl Machine {
     pub fn new(airframe: Airframe, s: &Settings) -> Result<Machine, Refusal> {
-        check_settings(airframe, s)?;
-        Ok(match airframe {
+        with_settings(airframe, s, || caught(|| Machine::made(airframe, s)))
+    }
+
+    fn made(airframe: Airframe, s: &Settings) -> Machine {
+        match airframe {
             Airframe::Tailsitter => Machine::Tailsitter(with_done_cosines(s, || Transition::new(transition_config(s)))),
             Airframe::Quadplane => Machine::Quadplane(LiftTransition::new(lift_transition_config(s))),
-        })
+        }
     }
 
     pub fn airframe(&self) -> Airframe {
@@ -184,13 +197,15 @@ impl Machine {
     }
 
     pub fn set_config(&mut self, s: &Settings) -> Result<Moved, Refusal> {
-        check_settings(self.airframe(), s)?;
+        with_settings(self.airframe(), s, || self.set(s).ok())?;
+        Ok(self.shown())
+    }
+
+    fn set(&mut self, s: &Settings) -> Result<(), InvalidConfig> {
         match self {
             Machine::Tailsitter(machine) => with_done_cosines(s, || machine.set_config(transition_config(s))),
             Machine::Quadplane(machine) => machine.set_config(lift_transition_config(s)),
         }
-        .expect("settings that were found good");
-        Ok(self.shown())
     }
 
     pub fn prime(&mut self, z_m: f32) -> Moved {
@@ -210,7 +225,7 @@ impl Machine {
         let tilt_rad = step.entry_tilt_rad();
         let nose_known = open::nose_up_cosine(&step.state()).is_finite();
         let in_half_turn = (0.0..=std::f32::consts::PI).contains(&tilt_rad);
-        if !good_dt(step.dt()) {
+        if !good_dt(step.dt()) && !self.takes(step) {
             Some(Refusal::Number(1))
         } else if self.airframe() == Airframe::Tailsitter && nose_known && !in_half_turn {
             Some(Refusal::Number(2))
@@ -219,12 +234,21 @@ impl Machine {
         }
     }
 
+    /// Whether the Rust's own update takes the step.
+    fn takes(&self, step: &Step) -> bool {
+        caught(|| self.clone().updated(step)).is_some()
+    }
+
     pub fn update(&mut self, step: &Step) -> Result<Moved, Refusal> {
-        if let Some(refusal) = self.refusal(step) {
-            return Err(refusal);
+        match self.refusal(step) {
+            Some(refusal) => Err(refusal),
+            None => Ok(self.updated(step)),
         }
+    }
+
+    fn updated(&mut self, step: &Step) -> Moved {
         let (dt, requested, state) = (step.dt(), step.requested(), step.state());
-        Ok(match self {
+        match self {
             Machine::Tailsitter(machine) => {
                 let tilt = libm::For {
                     argument: open::nose_up_cosine(&state).clamp(-1.0, 1.0),
@@ -237,7 +261,7 @@ impl Machine {
                 let step = machine.update(dt, requested, &state);
                 quadplane_moved(machine, &step)
             }
-        })
+        }
     }
 
     pub fn cut_short(&mut self, why: ModeRefusal) -> Moved {

@@ -1,6 +1,6 @@
 //! The commands of the reference; the scripts beside the workspace call them.
 
-use reference::{call_list, calls, card, compare, coverage, flights, named};
+use reference::{call_list, calls, card, compare, coverage, entry, flights, marks, named};
 use std::io::{self, Read, Write};
 use std::process::ExitCode;
 
@@ -13,6 +13,10 @@ const USAGE: &str = "usage: reference COMMAND
   calls               the answers to a list of calls on standard input
   make-calls SEED     a list of calls
   count-calls         how many calls of each kind a list on standard input has
+  entry               the answers to a list of calls of the joined machine on standard input
+  make-entry SEED N   such a list, of N cards of a seed and of those with a name
+  marks               the answers to a list of checks on standard input
+  make-marks SEED     a list of checks
   compare N SEED RUNNER..   N cards through the runner, each held against the transcript
 ";
 
@@ -28,6 +32,10 @@ fn main() -> ExitCode {
         ["calls"] => write(calls::answers(&read()).as_bytes()),
         ["make-calls", seed] => write(&call_list::make(number(seed))),
         ["count-calls"] => write(call_list::counts(&read()).as_bytes()),
+        ["entry"] => write(entry::answers(&read()).as_bytes()),
+        ["make-entry", seed, count] => write(&entry::make(number(seed), number(count))),
+        ["marks"] => write(marks::answers(&read()).as_bytes()),
+        ["make-marks", seed] => write(&marks::make(number(seed))),
         ["compare", count, seed, ref runner @ ..] if !runner.is_empty() => compare::cards(number(count), number(seed), runner),
         _ => {
             eprint!("{USAGE}");

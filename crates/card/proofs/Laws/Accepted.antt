@@ -7,7 +7,8 @@ use Prim.Native.Nat.{ℕ}
 use lib.ListN.{length}
 use Rattle.joined.specs.declared.machine.Airframe.{Airframe}
 use Rattle.joined.specs.declared.joined.Joined.{Joined}
-use Rattle.joined.specs.List.{after, answersOf, Claim}
+use Rattle.joined.specs.List.{after, answersOf}
+use Rattle.joined.specs.Claim.{Claim}
 use Rattle.joined.proofs.Laws.Every.{claim}
 use Rattle.card.specs.Format.{settingsAt, headerOf}
 use Rattle.card.specs.Chain.{chainOf, outcomeOf}

@@ -9,7 +9,7 @@ use Rattle.numbers.specs.Numbers.{if_then_else_, IsBinary32}
 use Rattle.machines.specs.declared.Airspeed.the-variants as airspeed
 use Rattle.joined.specs.declared.call.Call.{Call}
 use Rattle.joined.specs.Calls.{settingsBy, airspeedOf, vehicleBy, stepInputBy}
-use Rattle.joined.specs.List.{Binary32Settings, Binary32Airspeed, Binary32Step, Binary32Call, Binary32Calls}
+use Rattle.joined.specs.Binary32.{Binary32Settings, Binary32Airspeed, Binary32Step, Binary32Call, Binary32Calls}
 use Rattle.card.specs.Bytes.{u32At}
 use Rattle.card.specs.Format.{kindAt, optionAt, numberAt, settingsAt, stepInputAt, cutFor, recordAt}
 use Rattle.card.specs.Transcript.{withCall, callsOf}

@@ -1,36 +1,43 @@
 -- The header: the refusal of a making is document 01's 3, and a header that is not refused is a new joined machine with the card's settings. Assumes nothing.
-use mathlib.Core.Path.{_≡_, refl, sym, _∙_}
-use mathlib.Core.Bool.{Bool, true, false}
-use mathlib.Core.List.{List}
+use mathlib.Core.Path.{_≡_, refl, sym, _∙_, subst}
+use mathlib.Core.Bool.{Bool, true, false, _&&_}
+use mathlib.Core.List.{List, [], _∷_}
 use Prim.Native.Nat.{ℕ}
-use lib.Dec.{eqb}
+use lib.Dec.{T, eqb}
+use lib.Ieee.Fits.{and-l, and-r}
 use Rattle.numbers.specs.Numbers.{if_then_else_}
 use Rattle.machines.specs.declared.InputRefusal.{InputRefusal}
-use Rattle.machines.specs.declared.InputRefusal.the-variants as why
+use Rattle.machines.specs.declared.InputRefusal.the-variants.{TimeStep, EntryTilt, Setting, HandoffDuration, Tangent}
 use Rattle.machines.specs.declared.settings.Validity.{Validity}
 use Rattle.machines.specs.declared.settings.Validity.the-variants.{Valid, Bad}
 use Rattle.machines.specs.Refusals.{refusalOf}
+use Rattle.machines.specs.Settings.{Test, verdict, transitionTests, liftTests}
 use Rattle.joined.specs.declared.machine.Airframe.{Airframe}
 use Rattle.joined.specs.declared.machine.Airframe.the-variants as airframe
 use Rattle.joined.specs.declared.settings.Settings.{Settings}
 use Rattle.joined.specs.declared.joined.Joined.{Joined}
 use Rattle.joined.specs.declared.joined.NewJoined.{NewJoined}
 use Rattle.joined.specs.declared.joined.NewJoined.the-variants as made
+use Rattle.joined.specs.Machine.{transitionConfigOf, liftTransitionConfigOf}
 use Rattle.joined.specs.Joined.{newOf}
-use Rattle.joined.proofs.Laws.Answers.{settingsVerdict, new-refused, new-taken}
+use Rattle.joined.proofs.Laws.Effects.{validityIn}
+use Rattle.joined.proofs.Laws.Answers.{ofSettings, new-three}
 use Rattle.card.specs.Format.{kindAt, optionAt, settingsAt, headerFor, headerOf}
+use Rattle.card.specs.CardRefusals.{cardRefusalOf}
 use Rattle.card.specs.declared.refusal.CardRefusal.the-variants as refusal
 use Rattle.card.specs.declared.record.Header.the-variants as header
 use Rattle.card.proofs.Laws.Cases.{impossible}
 
-pub always-three : (a : Airframe) (s : Settings) (w : InputRefusal) → newOf a s ≡ made.Refused w → refusalOf w ≡ 3
-always-three a s w e = go (settingsVerdict a s) refl
+-- ---- a making that is refused is refused with 3
+pub header-three : (a : Airframe) (s : Settings) (why : InputRefusal) → newOf a s ≡ made.Refused why → cardRefusalOf (refusal.Header why) ≡ 3
+header-three a s why e = by why (new-three a s why e)
   where
-    go : (v : Validity) → settingsVerdict a s ≡ v → refusalOf w ≡ 3
-    go Valid is = impossible (cc (new-taken a s is .1))
-    go (Bad field) is =
-        let r : made.Refused (why.Setting field) ≡ made.Refused w = sym (new-refused a s field is) ∙ e in
-        let t : w ≡ why.Setting field = cc in simp t
+    by : (why : InputRefusal) → T (ofSettings why) → refusalOf why ≡ 3
+    by (Setting field) h = refl
+    by TimeStep h = absurd h
+    by EntryTilt h = absurd h
+    by HandoffDuration h = absurd h
+    by Tangent h = absurd h
 
 -- the machine of a header
 pub record Made (card : List ℕ) (j : Joined) : Type 0 where

@@ -29,10 +29,10 @@ use Rattle.joined.specs.declared.call.Call.the-variants as call
 use Rattle.joined.specs.declared.machine.Machine.{Machine}
 use Rattle.joined.specs.declared.machine.Machine.the-variants as machine
 use Rattle.joined.specs.declared.joined.Joined.{Joined}
-use Rattle.joined.specs.Machine.{airframeOf, isCopter, stateIn, transitioning, cutMachineOf}
+use Rattle.joined.specs.Machine.{airframeOf, isCopter, stateIn, transitioning, moving, cutMachineOf}
 use Rattle.joined.specs.Joined.{callOf}
 use Rattle.joined.specs.List.{modeAt, clockAt, isPrime, isAcceptedStep, asksCopter, copterRequestInCopter, minHeightOf, planeMinHeightOf, readsMinimum, SameSettings}
-use Rattle.joined.proofs.Laws.Effects.{rampStartIn, foundIn, movedIn, moving, Effect, refuses, sets, primes, cuts, moves, effect}
+use Rattle.joined.proofs.Laws.Effects.{rampStartIn, foundIn, movedIn, Effect, refuses, sets, primes, cuts, moves, effect}
 
 abbrev pub gateAt : Joined → ForwardGate
 gateAt j = stateIn (j .machine) .gate
@@ -40,27 +40,111 @@ gateAt j = stateIn (j .machine) .gate
 abbrev pub rampAt : Joined → RampStart
 rampAt j = rampStartIn (j .machine)
 
--- ---- the edges
-pub data Edge (j k : Joined) : Call → Type 0 where
+-- ---- the edges, each with what is known of the call, of the state j that it finds and of the state k that it leaves
+module _ (j k : Joined) (c : Call) where
   -- nothing moves: a refused call, settings, a cut elsewhere, or a step that goes on in Copter or Plane
-  stays : (c : Call) → T (not (isAcceptedStep j c && transitioning (modeAt j))) → T (not (isPrime j c)) → modeAt k ≡ modeAt j → gateAt k ≡ gateAt j → clockAt k ≡ clockAt j → rampAt k ≡ rampAt j → Edge j k c
-  primed : (z : Float) → modeAt k ≡ mode.Copter → gateAt k ≡ primedGate z → Edge j k (call.Prime z)
-  cleared : (c : Call) → T (copterRequestInCopter j c) → T (not (isPrime j c)) → modeAt k ≡ mode.Copter → gateAt k ≡ abandoning (gateAt j) refusal.None → Edge j k c
-  enters-to-plane : (i : StepInput) → modeAt j ≡ mode.Copter → modeAt k ≡ mode.ToPlane → gateAt j .abandoned ≡ refusal.None → gateAt k ≡ gateAt j
-      → highEnough (heightOf (gateAt j) (i .state .«z_m»)) (minHeightOf (j .machine)) (planeMinHeightOf (j .machine)) ≡ true → clockAt k ≡ zero32 → rampAt k ≡ Waiting → Edge j k (call.Step i)
-  stays-to-plane : (i : StepInput) → T (isAcceptedStep j (call.Step i)) → modeAt j ≡ mode.ToPlane → modeAt k ≡ mode.ToPlane → gateAt k ≡ gateAt j
-      → clockAt k ≡ clockAt j ⊕ i .dt → foundIn (j .machine) i .completed ≡ false → foundIn (j .machine) i .timedOut ≡ false
-      → rampAt k ≡ quadplane.rampIn mode.ToPlane (rampAt j) (readsMinimum (j .machine) i) (clockAt k) → SameSettings (j .machine) (k .machine) → Edge j k (call.Step i)
-  completes-to-plane : (i : StepInput) → modeAt j ≡ mode.ToPlane → modeAt k ≡ mode.Plane → gateAt k ≡ gateAt j → clockAt k ≡ clockAt j ⊕ i .dt
-      → foundIn (j .machine) i .completed ≡ true → Edge j k (call.Step i)
-  abandons-to-plane : (c : Call) → (why : ModeRefusal) → T (not (isPrime j c)) → modeAt j ≡ mode.ToPlane → modeAt k ≡ mode.Copter → gateAt k ≡ abandoning (gateAt j) (refusal.Some why) → Edge j k c
-  enters-to-copter : (i : StepInput) → modeAt j ≡ mode.Plane → modeAt k ≡ mode.ToCopter → gateAt k ≡ gateAt j → clockAt k ≡ zero32 → Edge j k (call.Step i)
-  floor-trips : (i : StepInput) → modeAt j ≡ mode.Plane → modeAt k ≡ mode.ToCopter → gateAt k ≡ abandoning (gateAt j) (refusal.Some BelowPlaneMinAltitude)
-      → clockAt k ≡ zero32 → Edge j k (call.Step i)
-  stays-to-copter : (i : StepInput) → T (isAcceptedStep j (call.Step i)) → modeAt j ≡ mode.ToCopter → modeAt k ≡ mode.ToCopter → gateAt k ≡ gateAt j
-      → clockAt k ≡ clockAt j ⊕ i .dt → foundIn (j .machine) i .ended ≡ false → SameSettings (j .machine) (k .machine) → Edge j k (call.Step i)
-  resumes-plane : (c : Call) → T (not (isPrime j c)) → modeAt j ≡ mode.ToCopter → modeAt k ≡ mode.Plane → gateAt j .abandoned ≡ refusal.None → gateAt k ≡ gateAt j → Edge j k c
-  ends-in-copter : (c : Call) → T (not (isPrime j c)) → modeAt k ≡ mode.Copter → gateAt k ≡ gateAt j → Edge j k c
+  pub record Stays : Type 0 where
+    pub idle : T (not (isAcceptedStep j c && transitioning (modeAt j)))
+    pub no-prime : T (not (isPrime j c))
+    pub to : modeAt k ≡ modeAt j
+    pub gate : gateAt k ≡ gateAt j
+    pub clock : clockAt k ≡ clockAt j
+    pub ramp : rampAt k ≡ rampAt j
+
+  -- a Copter request in Copter clears the abandonment
+  pub record Clears : Type 0 where
+    pub request : T (copterRequestInCopter j c)
+    pub no-prime : T (not (isPrime j c))
+    pub to : modeAt k ≡ mode.Copter
+    pub gate : gateAt k ≡ abandoning (gateAt j) refusal.None
+
+  -- the timeout, or a cut
+  pub record AbandonsToPlane : Type 0 where
+    pub why : ModeRefusal
+    pub no-prime : T (not (isPrime j c))
+    pub from : modeAt j ≡ mode.ToPlane
+    pub to : modeAt k ≡ mode.Copter
+    pub gate : gateAt k ≡ abandoning (gateAt j) (refusal.Some why)
+
+  -- a Plane request in ToCopter, with no abandonment
+  pub record ResumesPlane : Type 0 where
+    pub no-prime : T (not (isPrime j c))
+    pub from : modeAt j ≡ mode.ToCopter
+    pub to : modeAt k ≡ mode.Plane
+    pub free : gateAt j .abandoned ≡ refusal.None
+    pub gate : gateAt k ≡ gateAt j
+
+  -- a Copter request in ToPlane, the end of ToCopter, or a cut in it
+  pub record EndsInCopter : Type 0 where
+    pub no-prime : T (not (isPrime j c))
+    pub to : modeAt k ≡ mode.Copter
+    pub gate : gateAt k ≡ gateAt j
+
+-- a prime
+pub record Primes (k : Joined) (z : Float) : Type 0 where
+  pub to : modeAt k ≡ mode.Copter
+  pub gate : gateAt k ≡ primedGate z
+
+-- the steps
+module _ (j k : Joined) (i : StepInput) where
+  -- with no abandonment, and high enough
+  pub record EntersToPlane : Type 0 where
+    pub from : modeAt j ≡ mode.Copter
+    pub to : modeAt k ≡ mode.ToPlane
+    pub free : gateAt j .abandoned ≡ refusal.None
+    pub high : highEnough (heightOf (gateAt j) (i .state .«z_m»)) (minHeightOf (j .machine)) (planeMinHeightOf (j .machine)) ≡ true
+    pub gate : gateAt k ≡ gateAt j
+    pub clock : clockAt k ≡ zero32
+    pub ramp : rampAt k ≡ Waiting
+
+  -- neither completed nor timed out: the ramp may begin
+  pub record StaysToPlane : Type 0 where
+    pub taken : T (isAcceptedStep j (call.Step i))
+    pub from : modeAt j ≡ mode.ToPlane
+    pub to : modeAt k ≡ mode.ToPlane
+    pub completed : foundIn (j .machine) i .completed ≡ false
+    pub timed-out : foundIn (j .machine) i .timedOut ≡ false
+    pub gate : gateAt k ≡ gateAt j
+    pub clock : clockAt k ≡ clockAt j ⊕ i .dt
+    pub ramp : rampAt k ≡ quadplane.rampIn mode.ToPlane (rampAt j) (readsMinimum (j .machine) i) (clockAt k)
+    pub settings : SameSettings (j .machine) (k .machine)
+
+  pub record CompletesToPlane : Type 0 where
+    pub from : modeAt j ≡ mode.ToPlane
+    pub to : modeAt k ≡ mode.Plane
+    pub completed : foundIn (j .machine) i .completed ≡ true
+    pub gate : gateAt k ≡ gateAt j
+    pub clock : clockAt k ≡ clockAt j ⊕ i .dt
+
+  pub record StaysToCopter : Type 0 where
+    pub taken : T (isAcceptedStep j (call.Step i))
+    pub from : modeAt j ≡ mode.ToCopter
+    pub to : modeAt k ≡ mode.ToCopter
+    pub ended : foundIn (j .machine) i .ended ≡ false
+    pub gate : gateAt k ≡ gateAt j
+    pub clock : clockAt k ≡ clockAt j ⊕ i .dt
+    pub settings : SameSettings (j .machine) (k .machine)
+
+-- by a request, with the gate as it was, or by the floor
+pub record EntersToCopter (j k : Joined) (left : ForwardGate) : Type 0 where
+  pub from : modeAt j ≡ mode.Plane
+  pub to : modeAt k ≡ mode.ToCopter
+  pub gate : gateAt k ≡ left
+  pub clock : clockAt k ≡ zero32
+
+pub data Edge (j k : Joined) : Call → Type 0 where
+  stays : {c : Call} → Stays j k c → Edge j k c
+  primed : {z : Float} → Primes k z → Edge j k (call.Prime z)
+  cleared : {c : Call} → Clears j k c → Edge j k c
+  enters-to-plane : {i : StepInput} → EntersToPlane j k i → Edge j k (call.Step i)
+  stays-to-plane : {i : StepInput} → StaysToPlane j k i → Edge j k (call.Step i)
+  completes-to-plane : {i : StepInput} → CompletesToPlane j k i → Edge j k (call.Step i)
+  abandons-to-plane : {c : Call} → AbandonsToPlane j k c → Edge j k c
+  enters-to-copter : {i : StepInput} → EntersToCopter j k (gateAt j) → Edge j k (call.Step i)
+  floor-trips : {i : StepInput} → EntersToCopter j k (abandoning (gateAt j) (refusal.Some BelowPlaneMinAltitude)) → Edge j k (call.Step i)
+  stays-to-copter : {i : StepInput} → StaysToCopter j k i → Edge j k (call.Step i)
+  resumes-plane : {c : Call} → ResumesPlane j k c → Edge j k c
+  ends-in-copter : {c : Call} → EndsInCopter j k c → Edge j k c
 
 -- ---- tests that failed
 pub failed : {b : Bool} → b ≡ false → T (not b)
@@ -118,7 +202,7 @@ free refusal.None false e = (refl, cc)
 free (refusal.Some why) high e = (cc, cc)
 
 -- ---- a row
-module _ (j : Joined) (i : StepInput) (k : Joined) (taken : T (isAcceptedStep j (call.Step i))) (to : k .machine ≡ moving (j .machine) i .machine) where
+module _ (j : Joined) (i : StepInput) (k : Joined) (taken : T (isAcceptedStep j (call.Step i))) (moved : k .machine ≡ moving (j .machine) i .machine) where
   abbrev c : Call
   c = call.Step i
 
@@ -135,54 +219,62 @@ module _ (j : Joined) (i : StepInput) (k : Joined) (taken : T (isAcceptedStep j 
   row : (at : FlightMode) (asked : FlightRegime) → modeAt j ≡ at → i .requested ≡ asked → Row (rows.rowIn at asked begun found)
   row at asked em er = ap (λ (m : FlightMode). rows.rowIn m (i .requested) begun found) em ∙ ap (λ (r : FlightRegime). rows.rowIn at r begun found) er
 
-  state-by : (r : Moved) → Row r → stateIn (k .machine) ≡ r .state
-  state-by r e = ap stateIn to ∙ after-row (j .machine) i .state ∙ ap (λ (x : Moved). x .state) e
+  -- what it leaves
+  record Leaves (r : Moved) : Type 0 where
+    to : modeAt k ≡ r .state .mode
+    gate : gateAt k ≡ r .state .gate
+    clock : clockAt k ≡ r .state .«elapsed_s»
+    ramp : rampAt k ≡ rampAfter r (rampAt j) (readsMinimum (j .machine) i)
 
-  mode-by : (r : Moved) → Row r → modeAt k ≡ r .state .mode
-  mode-by r e = ap (λ (s : TransitionState). s .mode) (state-by r e)
-
-  gate-by : (r : Moved) → Row r → gateAt k ≡ r .state .gate
-  gate-by r e = ap (λ (s : TransitionState). s .gate) (state-by r e)
-
-  clock-by : (r : Moved) → Row r → clockAt k ≡ r .state .«elapsed_s»
-  clock-by r e = ap (λ (s : TransitionState). s .«elapsed_s») (state-by r e)
-
-  ramp-by : (r : Moved) → Row r → rampAt k ≡ rampAfter r (rampAt j) (readsMinimum (j .machine) i)
-  ramp-by r e = ap rampStartIn to ∙ moving-ramp (j .machine) i ∙ ap (λ (x : Moved). rampAfter x (rampAt j) (readsMinimum (j .machine) i)) e
+  leaves : (r : Moved) → Row r → Leaves r
+  leaves r e =
+      let s : stateIn (k .machine) ≡ r .state = ap stateIn moved ∙ after-row (j .machine) i .state ∙ ap (λ (x : Moved). x .state) e in
+      record {
+        to = ap (λ (x : TransitionState). x .mode) s;
+        gate = ap (λ (x : TransitionState). x .gate) s;
+        clock = ap (λ (x : TransitionState). x .«elapsed_s») s;
+        ramp = ap rampStartIn moved ∙ moving-ramp (j .machine) i ∙ ap (λ (x : Moved). rampAfter x (rampAt j) (readsMinimum (j .machine) i)) e;
+      }
 
   same : SameSettings (j .machine) (k .machine)
-  same = subst (λ (m : Machine). SameSettings (j .machine) m) (sym to) (after-row (j .machine) i .settings)
+  same = subst (λ (m : Machine). SameSettings (j .machine) m) (sym moved) (after-row (j .machine) i .settings)
 
   -- the clock that the tests see
   begun-clock : (at : FlightMode) → modeAt j ≡ at → begun .«elapsed_s» ≡ clockAfter at (clockAt j) (i .dt)
   begun-clock at em = ap (λ (m : FlightMode). clockAfter m (clockAt j) (i .dt)) em
 
-  -- a row that goes on in Copter or Plane
-  stands : (r : Moved) → Row r → (at : FlightMode) → modeAt j ≡ at → transitioning at ≡ false → r .state .mode ≡ modeAt j → r .state .gate ≡ gateAt j
-      → r .state .«elapsed_s» ≡ begun .«elapsed_s» → r .entered ≡ false → Edge j k c
-  stands r e at em idle m g t n =
-      stays c (not-and-right (isAcceptedStep j c) (transitioning (modeAt j)) (ap transitioning em ∙ idle)) tt (mode-by r e ∙ m) (gate-by r e ∙ g)
-      (clock-by r e ∙ t ∙ begun-clock at em ∙ still at idle) (ramp-by r e ∙ simp (n, m, em) (kept at idle))
+  -- a row that goes on in Copter or Plane, with report why
+  stands : (why : MaybeRefusal) → Row (rows.plain (reporting begun why)) → (at : FlightMode) → modeAt j ≡ at → transitioning at ≡ false → Edge j k c
+  stands why e at em idle =
+      let l = leaves (rows.plain (reporting begun why)) e in
+      stays (record {
+        idle = not-and-right (isAcceptedStep j c) (transitioning (modeAt j)) (ap transitioning em ∙ idle);
+        no-prime = tt;
+        to = l .to;
+        gate = l .gate;
+        clock = l .clock ∙ begun-clock at em ∙ kept at idle .0;
+        ramp = l .ramp ∙ ap (λ (m : FlightMode). quadplane.rampIn m (rampAt j) (readsMinimum (j .machine) i) (begun .«elapsed_s»)) em ∙ kept at idle .1;
+      })
     where
-      still : (a : FlightMode) → transitioning a ≡ false → clockAfter a (clockAt j) (i .dt) ≡ clockAt j
-      still mode.Copter n = refl
-      still mode.Plane n = refl
-      still mode.ToPlane n = absurd (subst T n tt)
-      still mode.ToCopter n = absurd (subst T n tt)
-
-      kept : (a : FlightMode) → transitioning a ≡ false → quadplane.rampIn a (rampAt j) (readsMinimum (j .machine) i) (r .state .«elapsed_s») ≡ rampAt j
-      kept mode.Copter n = refl
-      kept mode.Plane n = refl
+      kept : (a : FlightMode) → transitioning a ≡ false
+          → (clockAfter a (clockAt j) (i .dt) ≡ clockAt j) × (quadplane.rampIn a (rampAt j) (readsMinimum (j .machine) i) (begun .«elapsed_s») ≡ rampAt j)
+      kept mode.Copter n = (refl, refl)
+      kept mode.Plane n = (refl, refl)
       kept mode.ToPlane n = absurd (subst T n tt)
       kept mode.ToCopter n = absurd (subst T n tt)
 
   from-copter : (asked : FlightRegime) → i .requested ≡ asked → modeAt j ≡ mode.Copter → Edge j k c
   from-copter regime.Copter er em =
-      let e = row mode.Copter regime.Copter em er in
-      cleared c
-      (and-i (isAcceptedStep j c && asksCopter (i .requested)) (isCopter (modeAt j))
-      (and-i (isAcceptedStep j c) (asksCopter (i .requested)) taken (subst (λ (r : FlightRegime). T (asksCopter r)) (sym er) tt)) (subst (λ (m : FlightMode). T (isCopter m)) (sym em) tt)) tt
-      (mode-by _ e ∙ em) (gate-by _ e)
+      let l = leaves _ (row mode.Copter regime.Copter em er) in
+      cleared (record {
+        request =
+            and-i (isAcceptedStep j c && asksCopter (i .requested)) (isCopter (modeAt j))
+            (and-i (isAcceptedStep j c) (asksCopter (i .requested)) taken (subst (λ (r : FlightRegime). T (asksCopter r)) (sym er) tt))
+            (subst (λ (m : FlightMode). T (isCopter m)) (sym em) tt);
+        no-prime = tt;
+        to = l .to ∙ em;
+        gate = l .gate;
+      })
   from-copter regime.Plane er em = by refused refl
     where
       refused : MaybeRefusal
@@ -190,81 +282,105 @@ module _ (j : Joined) (i : StepInput) (k : Joined) (taken : T (isAcceptedStep j 
 
       by : (a : MaybeRefusal) → refused ≡ a → Edge j k c
       by (refusal.Some why) ea =
-          let e : Row (rows.plain (reporting begun (refusal.Some why))) = row mode.Copter regime.Plane em er ∙ ap (λ (a : MaybeRefusal). enterUnless a (reporting begun a)) ea in
-          stands _ e mode.Copter em refl refl refl refl refl
+          stands (refusal.Some why) (row mode.Copter regime.Plane em er ∙ ap (λ (a : MaybeRefusal). enterUnless a (reporting begun a)) ea) mode.Copter em refl
       by refusal.None ea =
-          let e : Row (rows.enters (rows.entering (reporting begun refusal.None) mode.ToPlane)) =
-          row mode.Copter regime.Plane em er ∙ ap (λ (a : MaybeRefusal). enterUnless a (reporting begun a)) ea in
+          let l = leaves _ (row mode.Copter regime.Plane em er ∙ ap (λ (a : MaybeRefusal). enterUnless a (reporting begun a)) ea) in
           let f = free (gateAt j .abandoned) (highEnough (heightOf (gateAt j) (found .z)) (found .minHeight) (found .planeMinHeight)) ea in
-          enters-to-plane i em (mode-by _ e) (f .0) (gate-by _ e)
-          (subst (λ (z : Float). highEnough (heightOf (gateAt j) z) (minHeightOf (j .machine)) (planeMinHeightOf (j .machine)) ≡ true) (heights (j .machine) i .z)
-          (subst (λ (p : Float). highEnough (heightOf (gateAt j) (found .z)) (minHeightOf (j .machine)) p ≡ true) (heights (j .machine) i .plane-minimum)
-          (subst (λ (n : Float). highEnough (heightOf (gateAt j) (found .z)) n (found .planeMinHeight) ≡ true) (heights (j .machine) i .minimum) (f .1)))) (clock-by _ e)
-          (ramp-by _ e)
+          let h = heights (j .machine) i in
+          enters-to-plane (record {
+            from = em;
+            to = l .to;
+            free = f .0;
+            high = rw (h .z, h .minimum, h .plane-minimum) at (f .1);
+            gate = l .gate;
+            clock = l .clock;
+            ramp = l .ramp;
+          })
 
   from-to-plane : (asked : FlightRegime) → i .requested ≡ asked → modeAt j ≡ mode.ToPlane → Edge j k c
-  from-to-plane regime.Copter er em = let e = row mode.ToPlane regime.Copter em er in ends-in-copter c tt (mode-by _ e) (gate-by _ e)
+  from-to-plane regime.Copter er em = let l = leaves _ (row mode.ToPlane regime.Copter em er) in ends-in-copter (record { no-prime = tt; to = l .to; gate = l .gate })
   from-to-plane regime.Plane er em = by (found .completed) (found .timedOut) refl refl
     where
+      row-by : (completed late : Bool) → found .completed ≡ completed → found .timedOut ≡ late → Leaves (toPlaneRow regime.Plane begun completed late)
+      row-by completed late ec et =
+          leaves _ (row mode.ToPlane regime.Plane em er ∙ ap (λ (b : Bool). toPlaneRow regime.Plane begun b (found .timedOut)) ec
+          ∙ ap (λ (b : Bool). toPlaneRow regime.Plane begun completed b) et)
+
       by : (completed late : Bool) → found .completed ≡ completed → found .timedOut ≡ late → Edge j k c
       by true late ec et =
-          let e : Row (rows.handsOver (rows.inMode begun mode.Plane)) = row mode.ToPlane regime.Plane em er ∙ ap (λ (b : Bool). toPlaneRow regime.Plane begun b (found .timedOut)) ec in
-          completes-to-plane i em (mode-by _ e) (gate-by _ e) (clock-by _ e ∙ begun-clock mode.ToPlane em) ec
+          let l = row-by true late ec et in
+          completes-to-plane (record { from = em; to = l .to; completed = ec; gate = l .gate; clock = l .clock ∙ begun-clock mode.ToPlane em })
       by false true ec et =
-          let e : Row (rows.plain (rows.abandon begun TransitionTimeout)) =
-          row mode.ToPlane regime.Plane em er ∙ ap (λ (b : Bool). toPlaneRow regime.Plane begun b (found .timedOut)) ec
-          ∙ ap (λ (b : Bool). toPlaneRow regime.Plane begun false b) et in
-          abandons-to-plane c TransitionTimeout tt em (mode-by _ e ∙ ap abandonedMode em) (gate-by _ e)
+          let l = row-by false true ec et in
+          abandons-to-plane (record { why = TransitionTimeout; no-prime = tt; from = em; to = l .to ∙ ap abandonedMode em; gate = l .gate })
       by false false ec et =
-          let e : Row (rows.plain begun) =
-          row mode.ToPlane regime.Plane em er ∙ ap (λ (b : Bool). toPlaneRow regime.Plane begun b (found .timedOut)) ec
-          ∙ ap (λ (b : Bool). toPlaneRow regime.Plane begun false b) et in
-          stays-to-plane i taken em (mode-by _ e ∙ em) (gate-by _ e) (clock-by _ e ∙ begun-clock mode.ToPlane em) ec et
-          (ramp-by _ e ∙ ap (λ (m : FlightMode). quadplane.rampIn m (rampAt j) (readsMinimum (j .machine) i) (begun .«elapsed_s»)) em
-          ∙ ap (λ (x : Float). quadplane.rampIn mode.ToPlane (rampAt j) (readsMinimum (j .machine) i) x) (sym (clock-by _ e))) same
+          let l = row-by false false ec et in
+          stays-to-plane (record {
+            taken = taken;
+            from = em;
+            to = l .to ∙ em;
+            completed = ec;
+            timed-out = et;
+            gate = l .gate;
+            clock = l .clock ∙ begun-clock mode.ToPlane em;
+            ramp =
+                l .ramp ∙ ap (λ (m : FlightMode). quadplane.rampIn m (rampAt j) (readsMinimum (j .machine) i) (begun .«elapsed_s»)) em
+                ∙ ap (quadplane.rampIn mode.ToPlane (rampAt j) (readsMinimum (j .machine) i)) (sym (l .clock));
+            settings = same;
+          })
 
   from-plane : (asked : FlightRegime) → i .requested ≡ asked → modeAt j ≡ mode.Plane → Edge j k c
-  from-plane regime.Copter er em = let e = row mode.Plane regime.Copter em er in enters-to-copter i em (mode-by _ e) (gate-by _ e) (clock-by _ e)
+  from-plane regime.Copter er em =
+      let l = leaves _ (row mode.Plane regime.Copter em er) in
+      enters-to-copter (record { from = em; to = l .to; gate = l .gate; clock = l .clock })
   from-plane regime.Plane er em = by (floorTrips (gateAt j) (found .z) (found .planeMinHeight)) refl
     where
       by : (b : Bool) → floorTrips (gateAt j) (found .z) (found .planeMinHeight) ≡ b → Edge j k c
       by true eb =
-          let e : Row (rows.enters (rows.abandon (rows.entering begun mode.ToCopter) BelowPlaneMinAltitude)) =
-          row mode.Plane regime.Plane em er ∙ ap (λ (b : Bool). planeRow regime.Plane begun b) eb in
-          floor-trips i em (mode-by _ e) (gate-by _ e) (clock-by _ e)
-      by false eb =
-          let e : Row (rows.plain begun) = row mode.Plane regime.Plane em er ∙ ap (λ (b : Bool). planeRow regime.Plane begun b) eb in
-          stands _ e mode.Plane em refl refl refl refl refl
+          let l = leaves _ (row mode.Plane regime.Plane em er ∙ ap (planeRow regime.Plane begun) eb) in
+          floor-trips (record { from = em; to = l .to; gate = l .gate; clock = l .clock })
+      by false eb = stands refusal.None (row mode.Plane regime.Plane em er ∙ ap (planeRow regime.Plane begun) eb) mode.Plane em refl
 
   -- the end of a back transition, with report why
   ending : (why : MaybeRefusal) → Row (finish (reporting begun why) (found .ended)) → modeAt j ≡ mode.ToCopter → Edge j k c
   ending why row em = by (found .ended) refl
     where
       by : (b : Bool) → found .ended ≡ b → Edge j k c
-      by true eb =
-          let e : Row (rows.handsOver (rows.inMode (reporting begun why) mode.Copter)) = row ∙ ap (λ (b : Bool). finish (reporting begun why) b) eb in
-          ends-in-copter c tt (mode-by _ e) (gate-by _ e)
+      by true eb = let l = leaves _ (row ∙ ap (finish (reporting begun why)) eb) in ends-in-copter (record { no-prime = tt; to = l .to; gate = l .gate })
       by false eb =
-          let e : Row (rows.plain (reporting begun why)) = row ∙ ap (λ (b : Bool). finish (reporting begun why) b) eb in
-          stays-to-copter i taken em (mode-by _ e ∙ em) (gate-by _ e) (clock-by _ e ∙ begun-clock mode.ToCopter em) eb same
+          let l = leaves _ (row ∙ ap (finish (reporting begun why)) eb) in
+          stays-to-copter
+          (record { taken = taken; from = em; to = l .to ∙ em; ended = eb; gate = l .gate; clock = l .clock ∙ begun-clock mode.ToCopter em; settings = same })
 
   from-to-copter : (asked : FlightRegime) → i .requested ≡ asked → modeAt j ≡ mode.ToCopter → Edge j k c
   from-to-copter regime.Copter er em = ending refusal.None (row mode.ToCopter regime.Copter em er) em
   from-to-copter regime.Plane er em = by (gateAt j .abandoned) refl
     where
+      row-by : (a : MaybeRefusal) → gateAt j .abandoned ≡ a → Row (resumeUnless a (reporting begun (gateAt j .abandoned)) (found .ended))
+      row-by a ea = row mode.ToCopter regime.Plane em er ∙ ap (λ (a : MaybeRefusal). resumeUnless a (reporting begun (gateAt j .abandoned)) (found .ended)) ea
+
       by : (a : MaybeRefusal) → gateAt j .abandoned ≡ a → Edge j k c
-      by refusal.None ea =
-          let e : Row (rows.plain (rows.inMode (reporting begun (gateAt j .abandoned)) mode.Plane)) =
-          row mode.ToCopter regime.Plane em er ∙ ap (λ (a : MaybeRefusal). resumeUnless a (reporting begun (gateAt j .abandoned)) (found .ended)) ea in
-          resumes-plane c tt em (mode-by _ e) ea (gate-by _ e)
-      by (refusal.Some why) ea =
-          ending (gateAt j .abandoned) (row mode.ToCopter regime.Plane em er ∙ ap (λ (a : MaybeRefusal). resumeUnless a (reporting begun (gateAt j .abandoned)) (found .ended)) ea) em
+      by refusal.None ea = let l = leaves _ (row-by refusal.None ea) in resumes-plane (record { no-prime = tt; from = em; to = l .to; free = ea; gate = l .gate })
+      by (refusal.Some why) ea = ending (gateAt j .abandoned) (row-by (refusal.Some why) ea) em
 
   by-row : (at : FlightMode) → modeAt j ≡ at → Edge j k c
   by-row mode.Copter em = from-copter (i .requested) refl em
   by-row mode.ToPlane em = from-to-plane (i .requested) refl em
   by-row mode.Plane em = from-plane (i .requested) refl em
   by-row mode.ToCopter em = from-to-copter (i .requested) refl em
+
+-- ---- the state and the ramp as they were
+unmoved : (j : Joined) (c : Call) (k : Joined) → T (not (isAcceptedStep j c && transitioning (modeAt j))) → T (not (isPrime j c)) → stateIn (k .machine) ≡ stateIn (j .machine)
+    → rampAt k ≡ rampAt j → Edge j k c
+unmoved j c k n p e r =
+    stays (record {
+      idle = n;
+      no-prime = p;
+      to = ap (λ (s : TransitionState). s .mode) e;
+      gate = ap (λ (s : TransitionState). s .gate) e;
+      clock = ap (λ (s : TransitionState). s .«elapsed_s») e;
+      ramp = r;
+    })
 
 -- ---- a cut
 pub record AfterCut (m : Machine) (why : ModeRefusal) : Type 0 where
@@ -281,24 +397,22 @@ by-cut : (j : Joined) (c : Call) (k : Joined) (why : ModeRefusal) → T (not (is
 by-cut j c k why p to at em = go at em (ap stateIn to ∙ after-cut (j .machine) why .state ∙ ap (λ (m : FlightMode). cutIn m (stateIn (j .machine)) why .state) em)
   where
     idle : stateIn (k .machine) ≡ stateIn (j .machine) → transitioning (modeAt j) ≡ false → Edge j k c
-    idle e n =
-        stays c (not-and-right (isAcceptedStep j c) (transitioning (modeAt j)) n) p (ap (λ (s : TransitionState). s .mode) e) (ap (λ (s : TransitionState). s .gate) e)
-        (ap (λ (s : TransitionState). s .«elapsed_s») e) (ap rampStartIn to ∙ after-cut (j .machine) why .ramp)
+    idle e n = unmoved j c k (not-and-right (isAcceptedStep j c) (transitioning (modeAt j)) n) p e (ap rampStartIn to ∙ after-cut (j .machine) why .ramp)
 
     go : (at : FlightMode) → modeAt j ≡ at → stateIn (k .machine) ≡ cutIn at (stateIn (j .machine)) why .state → Edge j k c
     go mode.Copter em e = idle e (ap transitioning em)
     go mode.Plane em e = idle e (ap transitioning em)
-    go mode.ToPlane em e = abandons-to-plane c why p em (ap (λ (s : TransitionState). s .mode) e ∙ ap abandonedMode em) (ap (λ (s : TransitionState). s .gate) e)
-    go mode.ToCopter em e = ends-in-copter c p (ap (λ (s : TransitionState). s .mode) e) (ap (λ (s : TransitionState). s .gate) e)
+    go mode.ToPlane em e =
+        abandons-to-plane (record { why = why; no-prime = p; from = em; to = ap (λ (s : TransitionState). s .mode) e ∙ ap abandonedMode em; gate = ap (λ (s : TransitionState). s .gate) e })
+    go mode.ToCopter em e = ends-in-copter (record { no-prime = p; to = ap (λ (s : TransitionState). s .mode) e; gate = ap (λ (s : TransitionState). s .gate) e })
 
 -- ---- every call moves by an edge, and the airframe stays
 by-effect : (j : Joined) (c : Call) (k : Joined) → Effect j c k → Edge j k c
 by-effect j c k (refuses n p e) =
-    stays c (not-and-left (isAcceptedStep j c) (transitioning (modeAt j)) n) p (ap modeAt e) (ap gateAt e) (ap clockAt e) (ap rampAt e)
-by-effect j c k (sets n p s r a) =
-    stays c (not-and-left (isAcceptedStep j c) (transitioning (modeAt j)) n) p (ap (λ (s : TransitionState). s .mode) s) (ap (λ (s : TransitionState). s .gate) s)
-    (ap (λ (s : TransitionState). s .«elapsed_s») s) r
-by-effect j c k (primes z e s a) = subst (λ (x : Call). Edge j k x) (sym e) (primed z (ap (λ (s : TransitionState). s .mode) s) (ap (λ (s : TransitionState). s .gate) s))
+    unmoved j c k (not-and-left (isAcceptedStep j c) (transitioning (modeAt j)) n) p (ap (λ (x : Joined). stateIn (x .machine)) e) (ap rampAt e)
+by-effect j c k (sets n p s r a) = unmoved j c k (not-and-left (isAcceptedStep j c) (transitioning (modeAt j)) n) p s r
+by-effect j c k (primes z e s a) =
+    subst (λ (x : Call). Edge j k x) (sym e) (primed (record { to = ap (λ (x : TransitionState). x .mode) s; gate = ap (λ (x : TransitionState). x .gate) s }))
 by-effect j c k (cuts why by p to) = by-cut j c k why p to (modeAt j) refl
 by-effect j c k (moves i e taken p to) = subst (λ (x : Call). Edge j k x) (sym e) (by-row j i k taken to (modeAt j) refl)
 

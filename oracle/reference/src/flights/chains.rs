@@ -59,9 +59,9 @@ pub fn bad_header(random: &mut Random, airframe: Airframe, field: usize) -> Vec<
 /// How many shapes `shaped` knows.
 pub const SHAPES: u64 = 40;
 
-/// The shapes of cards that are longer than others.
+/// The shapes before these are of short cards; then a card of 800 records and one of 801.
+pub const SHORT_SHAPES: u64 = 38;
 pub const LONGEST: u64 = 38;
-pub const TOO_LONG: u64 = 39;
 /// A shape to take in their place.
 pub const SCATTERED: u64 = 27;
 

@@ -13,12 +13,12 @@ returns c =
 
 returns-2 : tie.Need-returns-2
 returns-2 c =
-    let s = c .before .before .before .before .before in
-    let made = c .before .before .before .before .new .ensures ∙ ap (newOf (s .before .before .args .airframe)) (s .settings-at .ensures) in
-    simp (sym made ∙ c .before .before .made2 .given .1, c .field .ensures)
+    let s = c .before .before .before .before in
+    let made = c .before .before .before .new .ensures ∙ ap (newOf (s .before .before .args .airframe)) (s .settings-at .ensures) in
+    simp (sym made ∙ c .before .made2 .given .1)
 
 pub header-for-spec : {M : Type 1} → statement M
 header-for-spec =
     tie.close
     (tie.spec
-    (λ c κs. search needs) (λ c κs. search needs) (λ c. search needs) (λ c. search needs) (λ c κs. search needs) returns returns-2)
+    (λ c κs. search needs) (λ c κs. search needs) (λ c. search needs) (λ c. search needs) returns returns-2)

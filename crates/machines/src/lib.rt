@@ -102,12 +102,12 @@ impl VehicleState {
 }
 
 impl AirspeedReading {
-    // A valid airspeed is at least the minimum; without one the answer is `absent`. One function for both machines: as two, a step took longer.
-    pub(crate) fn at_least(self, min_airspeed_mps: f32, absent: bool) -> bool
-        ensures { λ r. ⌜ r ≡ atLeastOr self «min_airspeed_mps» absent ⌝ }
+    // Whether a valid airspeed is at least the minimum; without one the answer is `if_none`. One function for both machines: as two, the quadplane's steps took longer.
+    pub(crate) fn at_least_or(self, min_airspeed_mps: f32, if_none: bool) -> bool
+        ensures { λ r. ⌜ r ≡ atLeastOr self «min_airspeed_mps» «if_none» ⌝ }
     {
         match self {
-            AirspeedReading::None => absent,
+            AirspeedReading::None => if_none,
             AirspeedReading::Valid(airspeed_mps) => airspeed_mps >= min_airspeed_mps,
         }
     }

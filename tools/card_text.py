@@ -4,18 +4,20 @@ usage: oracle/card encode < TEXT > CARD
        oracle/card decode < CARD > TEXT
        oracle/card list CARD.. > CARDS      the cards one after the other, each with its length before it (a little-endian u32)
 
-One record a line; '#' begins a comment. The first line is the header, with the settings in the order of docs/SETTINGS.md:
-  tailsitter N1 .. N17      or      quadplane N1 .. N15
+One record a line, in words with spaces or tabs between them; '#' begins a comment. The first line is the header:
+  tailsitter SETTINGS       or      quadplane SETTINGS
 then
   prime z=N
   step copter|plane dt=N attitude=W,X,Y,Z [z=N] [velocity=X,Y,Z] [acceleration=X,Y] [airspeed=N] [entry_tilt=N] [bank=N] [demand=N]
-  cut REASON                11 Unsupported, 12 OnGround, 13 BelowMinAltitude, 14 TransitionTimeout, 15 RollError, 16 BelowPlaneMinAltitude
-  settings N1 .. N17        or N1 .. N15, as the card's airframe has them
+  cut REASON                by number or name: 11 Unsupported, 12 OnGround, 13 BelowMinAltitude, 14 TransitionTimeout, 15 RollError, 16 BelowPlaneMinAltitude
+  settings SETTINGS         as the header's airframe has them
   record KIND OPTION N1 .. N19
+SETTINGS are either all numbers in the order of docs/SETTINGS.md, 17 of a tailsitter and 15 of a quadplane, or any of its names in any order, each as NAME=NUMBER: what is not named has its default there, also in a 'settings' line, whatever the lines before it say.
 dt is in s, z up in m, velocity north, east and up in m/s, acceleration north and east in m/s², airspeed in m/s, entry_tilt and bank in rad; demand is a throttle from 0 to 1.
 A number is decimal, 'nan', 'inf', '-inf', or 'x' and the 8 hexadecimal digits of its bits; a decimal other than 0 that would become 0 or infinity is refused. What is not named is 0; an airspeed that is not named is absent.
 A record is followed by the next line's, the last one ends the chain; 'next=I' at the end of a line says otherwise, and 'times=K' makes K such records, each with that next index if there is one. I counts records, not lines, from 0, the header.
-A text of encode may have a byte order mark and either line end. docs/CARD.md explains the card itself.
+A text of encode may have a byte order mark and any line end. docs/CARD.md explains the card itself.
+The program of crates/writer takes the same form without what makes odd cards for tests: 'record', 'next=', a header that is not the first line or stands more than once, a reason past 11 to 16, settings of the other airframe's number; nor times above 799 or of more than 3 digits, nor a decimal of more than 9 digits or 9 places behind the point.
 
 Exit status: 0 done, 2 anything else, with a line of words on standard error.
 """
@@ -35,8 +37,11 @@ MOST_CARD = MOST_TEXT_RECORDS * fc.RECORD_BYTES
 MOST_TEXT = 1 << 24
 NAMED_NUMBERS = {"nan": 0x7FC00000, "inf": 0x7F800000, "-inf": 0xFF800000}
 KIND_OF = {name: kind for kind, name in fc.KINDS.items()}
+REASON_OF = {name: number for number, name in fc.REPORTS.items()}
 SPECIAL = re.compile("x[0-9a-fA-F]{8}")
 DECIMAL = re.compile(r"[+-]?([0-9]+\.?[0-9]*|\.[0-9]+)([eE][+-]?[0-9]{1,3})?")
+# What a decimal has at most for the program of crates/writer.
+MOST_DIGITS = MOST_PLACES = 9
 # A decimal at or above this in size rounds to infinity.
 TOO_LARGE = Fraction(2**25 - 1) * 2**103
 
@@ -71,10 +76,19 @@ def bits(word):
     return found | 0x80000000 * word.startswith("-")
 
 
+def is_long(word):
+    """Whether a word is a decimal that the program of crates/writer does not take: of more than nine digits or nine places behind the point, its exponent worked in."""
+    if not DECIMAL.fullmatch(word):
+        return False
+    size = abs(Fraction(word))
+    places = next((k for k in range(MOST_PLACES + 1) if (size * 10**k).denominator == 1), None)
+    return places is None or size * 10**places >= 10**MOST_DIGITS
+
+
 def number_text(number):
-    """A number's bits as the text has them: a decimal if one reads back as them, else the bits."""
+    """A number's bits as the text has them: a decimal if one reads back as them that the program takes, else the bits."""
     word = fc.decimal(number)
-    return word if bits(word) == number else f"x{number:08X}"
+    return word if bits(word) == number and not is_long(word) else f"x{number:08X}"
 
 
 def counted(size, what):
@@ -116,19 +130,49 @@ def whole(word, name, most, least=0):
     return int(word)
 
 
-def settings(name, words):
-    """The numbers of a header or of a settings call, which does not know its airframe."""
+def named_settings(airframe, words):
+    """The numbers of settings by name; what is not named has its default."""
+    if airframe not in fc.AIRFRAMES:
+        raise Bad("settings go by the names of the header's airframe, and the first line is no header: 'tailsitter ..' or 'quadplane ..'")
+    places = {setting.name: place for place, setting in enumerate(fc.SETTINGS_OF[airframe])}
+    numbers, named = padded([setting.default for setting in fc.SETTINGS_OF[airframe]]), set()
+    for word in words:
+        name, equals, value = word.partition("=")
+        if not equals:
+            raise Bad(f"{shown(word)} has no name; settings stand all by position or all as NAME=NUMBER, without a space")
+        if name not in places:
+            raise Bad(f"a {fc.AIRFRAMES[airframe]} has no setting {shown(name)}; it has {', '.join(places)}")
+        if name in named:
+            raise Bad(f"'{name}' stands twice")
+        numbers[places[name]] = bits(value)
+        named.add(name)
+    return numbers
+
+
+def settings(name, words, airframe):
+    """The numbers of a header or of a settings call. By position a settings call may be of either airframe."""
+    if not words or any("=" in word for word in words):
+        return named_settings(airframe, words)
     sizes = {airframe: len(settings) for airframe, settings in fc.SETTINGS_OF.items()}
     most = max(sizes.values())
     kind = KIND_OF[name]
     if len(words) not in ({sizes[kind], most} if kind in sizes else {*sizes.values()}):
         takes = " or ".join(f"{size} of a {fc.AIRFRAMES[airframe]}" for airframe, size in sizes.items() if kind in (airframe, fc.SETTINGS))
-        raise Bad(f"'{name}' has {counted(len(words), 'number')}; it takes the {takes}, in the order of docs/SETTINGS.md")
+        raise Bad(f"'{name}' has {counted(len(words), 'number')}; it takes the {takes}, in the order of docs/SETTINGS.md, or any of them as NAME=NUMBER")
     return padded(words)
 
 
-def parsed(words):
-    """Kind, option and numbers of a line."""
+def reason(words):
+    """The number of a cut's reason."""
+    if len(words) == 1 and words[0] in REASON_OF:
+        return REASON_OF[words[0]]
+    if len(words) != 1 or not re.fullmatch("[0-9]{1,3}", words[0]) or int(words[0]) > 255:
+        raise Bad(f"a cut is 'cut REASON', with one of these numbers or names: {', '.join(f'{number} {name}' for number, name in fc.REPORTS.items())}")
+    return int(words[0])
+
+
+def parsed(words, airframe=None):
+    """Kind, option and numbers of a line; the airframe is the header's."""
     name, rest = words[0], words[1:]
     if name == "prime":
         if len(rest) != 1 or not rest[0].startswith("z="):
@@ -137,11 +181,10 @@ def parsed(words):
     if name == "step":
         return (fc.STEP, *step(rest))
     if name == "cut":
-        if len(rest) != 1 or not re.fullmatch("[0-9]{1,3}", rest[0]) or int(rest[0]) > 255:
-            raise Bad(f"a cut is 'cut REASON', with one of these numbers: {', '.join(f'{number} {name}' for number, name in fc.REPORTS.items())}")
-        return fc.CUT, int(rest[0]), [0] * fc.NUMBERS
+        return fc.CUT, reason(rest), [0] * fc.NUMBERS
     if name in KIND_OF:
-        return KIND_OF[name], 0, settings(name, rest)
+        kind = KIND_OF[name]
+        return kind, 0, settings(name, rest, airframe if kind == fc.SETTINGS else kind)
     if name == "record":
         if not 2 <= len(rest) <= 2 + fc.NUMBERS:
             raise Bad(f"a record is 'record KIND OPTION' and up to {fc.NUMBERS} numbers")
@@ -149,9 +192,14 @@ def parsed(words):
     raise Bad(f"{shown(name)} begins no record; these do: {', '.join(KIND_OF)}, record")
 
 
-def records_of(line):
+def words_of(line):
+    """The words of a line before its comment."""
+    return [word for word in re.split("[ \t]", line.split("#")[0]) if word]
+
+
+def records_of(line, airframe):
     """The records of a line, each with its next index if the line names one."""
-    words = line.split("#")[0].split()
+    words = words_of(line)
     if not words:
         return []
     ends = {}
@@ -162,26 +210,41 @@ def records_of(line):
         ends[name] = whole(value, f"'{name}='", 65535) if name == "next" else whole(value, f"'{name}='", fc.MOST_RECORDS, 1)
     if not words:
         raise Bad("a line begins with a record, and 'next' and 'times' stand after it")
-    return [(parsed(words), ends.get("next"))] * ends.get("times", 1)
+    return [(parsed(words, airframe), ends.get("next"))] * ends.get("times", 1)
 
 
 def lines_of(text):
-    """The lines of a text's bytes. A byte order mark and either line end are taken."""
+    """The lines of a text's bytes. A byte order mark and any line end are taken."""
     if text.startswith((b"\xff\xfe", b"\xfe\xff")):
         raise Bad("line 1: the text is UTF-16; save it as UTF-8")
     return [line.decode("utf-8", "replace") for line in text.removeprefix(b"\xef\xbb\xbf").splitlines()]
 
 
+def read_lines(text):
+    """Of each line of a text: its number, its words and its records. The first record's kind is the airframe."""
+    airframe = None
+    for number, line in enumerate(lines_of(text), 1):
+        try:
+            records = records_of(line, airframe)
+        except Bad as bad:
+            raise Bad(f"line {number}: {bad}") from None
+        if records and airframe is None:
+            airframe = records[0][0][0]
+        yield number, words_of(line), records
+
+
 def encode(text):
     """The card of a text."""
     records = []
-    for number, line in enumerate(lines_of(text), 1):
-        try:
-            records += records_of(line)
-        except Bad as bad:
-            raise Bad(f"line {number}: {bad}") from None
+    for number, _, more in read_lines(text):
+        records += more
         if len(records) > MOST_TEXT_RECORDS:
             raise Bad(f"line {number}: more than {MOST_TEXT_RECORDS} records, which no next index can name; a card has at most {fc.MOST_RECORDS}")
+    return card_of(records)
+
+
+def card_of(records):
+    """The bytes of records, each with its next index or None for the one after it."""
     last = len(records) - 1
     packed = []
     for i, ((kind, option, numbers), after) in enumerate(records):

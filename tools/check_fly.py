@@ -1,4 +1,4 @@
-"""Checks of ./fly and oracle/card as commands: what they write, their status and words, and how the runner is built, alone and sixteen at once."""
+"""Checks of ./fly and oracle/card as commands: what they write, their status and words, and how runner and writer are built, alone and sixteen at once."""
 import os
 import pathlib
 import shutil
@@ -13,24 +13,27 @@ import checks
 ROOT = pathlib.Path(__file__).resolve().parent.parent
 FLY, TEXT_FORM = ROOT / "fly", ROOT / "oracle/card"
 CARD = ROOT / "examples/section7.card"
+TEXT = CARD.with_suffix(".txt")
+# Its records are out of order, so that the writer does not take it.
+ODD_TEXT = ROOT / "examples/chain.txt"
 AT_ONCE = 16
 ODD_NAME = "a b&<'\"$(touch x)\x01.card"
-# Stands in for the kit's rt: counts its calls, takes a second, and puts the runner in its place or fails; or a source changes meanwhile.
+# Stands in for the kit's rt: counts its calls, takes a second, and puts the program in its place or fails; or a source changes meanwhile.
 FAKE_RT = """#!/bin/sh
 echo called >>"$FAKE/calls"
 echo "rt: numbers proved (1 s)"
 sleep 1
 [ ! -e "$FAKE/changes" ] || { echo "// changed" >>crates/numbers/src/lib.rt; rm "$FAKE/changes"; }
-[ ! -e "$FAKE/fails" ] || { echo "rt: runner NOT PROVED (exit 1, 1 s)"; exit 1; }
-mkdir -p target/bin && cp "$FAKE/runner" target/bin/runner
-echo "rt: runner proved (1 s)"
+[ ! -e "$FAKE/fails" ] || { echo "rt: $2 NOT PROVED (exit 1, 1 s)"; exit 1; }
+mkdir -p target/bin && cp "$FAKE/$2" "target/bin/$2"
+echo "rt: $2 proved (1 s)"
 """
 
 
 class Clone:
     """A folder with fly in it, a crate to change, and an rt of its own on the PATH."""
 
-    def __init__(self, place, runner):
+    def __init__(self, place, runner, writer):
         self.root, self.fake = place / "clone", place / "fake"
         (self.root / "crates/numbers/src").mkdir(parents=True)
         self.fake.mkdir()
@@ -38,6 +41,7 @@ class Clone:
         self.change("crates/numbers/src/lib.rt", "// one\n")
         shutil.copy(FLY, self.root)
         shutil.copy(runner, self.fake / "runner")
+        shutil.copy(writer, self.fake / "writer")
         for name in ("tools", "oracle"):
             (self.root / name).symlink_to(ROOT / name)
         (self.fake / "rt").write_text(FAKE_RT)
@@ -51,20 +55,20 @@ class Clone:
         counted = self.fake / "calls"
         return len(counted.read_text().split()) if counted.exists() else 0
 
-    def fly(self):
-        return checks.run([self.root / "fly", CARD], env=self.env)
+    def fly(self, given=CARD):
+        return checks.run([self.root / "fly", given], env=self.env)
 
-    def start(self, **ends):
-        return subprocess.Popen([self.root / "fly", CARD], env=self.env, **ends)
+    def start(self, given=CARD, **ends):
+        return subprocess.Popen([self.root / "fly", given], env=self.env, **ends)
 
 
 def right():
     return CARD.with_suffix(".transcript").read_bytes()
 
 
-def together(clone):
+def together(clone, given=CARD):
     """As many flights at once as are asked for: output and status of each."""
-    started = [clone.start(stdout=subprocess.PIPE, stderr=subprocess.DEVNULL) for _ in range(AT_ONCE)]
+    started = [clone.start(given, stdout=subprocess.PIPE, stderr=subprocess.DEVNULL) for _ in range(AT_ONCE)]
     return [(flight.communicate()[0], flight.returncode) for flight in started]
 
 
@@ -101,6 +105,31 @@ def building(found, clone):
     found.hold("after the gate the first flight speaks of no minutes", (status, said) == (0, right()) and b"minutes" not in words, words.decode())
 
 
+def texts(found, clone):
+    """A text has the writer built, once, and its card is flown."""
+    built, before = clone.root / "target/fly/writer", clone.calls()
+    found.hold("a card has no writer built", not built.exists())
+    found.hold(f"{AT_ONCE} texts at once are right", together(clone, TEXT) == [(right(), 0)] * AT_ONCE)
+    found.hold("and the writer was built once", clone.calls() == before + 1, str(clone.calls() - before))
+    found.hold("what is built writes a text's card without rt and without a word", clone.fly(TEXT) == (0, right(), b"") and clone.calls() == before + 1)
+    built.write_bytes(b"#!/bin/sh\n")
+    found.hold("a writer that was changed is built again", clone.fly(TEXT)[:2] == (0, right()) and clone.calls() == before + 2, str(clone.calls() - before))
+    clone.change("crates.txt", "# and a text that is wrong\n")
+    clone.change("bad.txt", "quadplane 9\n")
+    status, said, words = clone.fly(clone.root / "bad.txt")
+    found.hold("what is wrong with a text is told before anything is built", (status, said) == (2, b"") and b"bad.txt: line 1: " in words and clone.calls() == before + 2, words.decode())
+    other = ROOT / "examples/quadplane.card"
+    (clone.fake / "writer").write_text(f"#!/bin/sh\ncat '{other}'\n")
+    clone.change("crates.txt", "# another writer\n")
+    found.hold("the card that is flown is the writer's", clone.fly(TEXT)[:2] == (0, other.with_suffix(".transcript").read_bytes()))
+    (clone.fake / "writer").write_text("#!/bin/sh\necho 'writer: line 1: odd' >&2\n")
+    clone.change("crates.txt", "# one that takes nothing\n")
+    status, said, words = clone.fly(TEXT)
+    found.hold("a text that the writer does not take is not flown", (status, said) == (2, b"") and words.endswith(f"fly: {TEXT}: line 1: odd\n".encode()), words.decode())
+    status, said, words = clone.fly(ODD_TEXT)
+    found.hold("unless its records are out of order: then oracle/card makes its card, and that is said", (status, said) == (0, ODD_TEXT.with_suffix(".transcript").read_bytes()) and b"oracle/card makes this card" in words, words.decode())
+
+
 def rebuilding(found, clone):
     """What has changed is built, and what is not proved is not flown."""
     for name in ("crates/numbers/src/lib.rt", "crates/numbers/src/more.antt", "crates.txt"):
@@ -132,8 +161,10 @@ def flights(found, place):
     for card in sorted((ROOT / "examples").glob("*.card")):
         transcript, table = card.with_suffix(".transcript").read_bytes(), card.with_suffix(".table").read_bytes()
         status = 1 if transcript.startswith(b"card") else 0
-        for words, data in (([card], b""), ([card.with_suffix(".txt")], b""), ([], card.read_bytes())):
+        for words, data in (([card], b""), ([], card.read_bytes())):
             found.hold(f"fly {card.stem}: transcript and status", checks.run([FLY, *words], data)[:2] == (status, transcript))
+        told = b"" if card.stem == "bad_setting" else transcript
+        found.hold(f"fly {card.stem}.txt: transcript and status", checks.run([FLY, card.with_suffix(".txt")])[:2] == (status, told))
         found.hold(f"fly --table {card.stem}", checks.run([FLY, "--table", card])[:2] == (status, table))
         svg = place / f"{card.stem}.svg"
         done = checks.run([FLY, "--picture", svg, card.relative_to(ROOT)], cwd=ROOT)
@@ -145,6 +176,31 @@ def flights(found, place):
     found.hold("a byte more than the longest card is refused with 6", checks.run([FLY], long)[:2] == (1, b"card 6\n"))
 
 
+def writes(found, place):
+    """The cards that fly --write makes, and what it leaves where it makes none."""
+    for name in ("section7", "quadplane", "tailsitter", "edges"):
+        card = ROOT / f"examples/{name}.card"
+        done = checks.run([FLY, "--write", place / f"{name}.card", card.with_suffix(".txt")])
+        found.hold(f"fly --write {name}", done == (0, b"", b"") and drawn(place / f"{name}.card") == card.read_bytes(), done[2].decode())
+    found.hold("and from standard input", checks.run([FLY, "--write", place / "in.card"], TEXT.read_bytes()) == (0, b"", b"") and drawn(place / "in.card") == CARD.read_bytes())
+    text, old = place / "mine.txt", place / "in.card"
+    (place / "folder.card").mkdir()
+    tries = [
+        ("quadplane lift_ramp_s=0\n", old, 1, b"line 1: refused 3 2: "),
+        ("quadplane\n" + "prime z=0 times=400\n" * 2, old, 1, b"line 3: refused 21: "),
+        ("quadplane\nprime z=0 next=0\n", old, 2, b"line 2: 'next=0' "),
+        ("quadplane\ncut a: refused 3\n", old, 2, b"line 2: "),
+        ("quadplane\n", place / "folder.card", 2, b"is a folder"),
+        ("quadplane\n", place / "no/x.card", 2, b"cannot be written"),
+        ("quadplane\n", place / "x.txt", 2, b"does not end in .card"),
+    ]
+    for words, card, status, told in tries:
+        text.write_text(words)
+        done = checks.run([FLY, "--write", card, text])
+        found.hold(f"fly --write: {told.decode()}", done[:2] == (status, b"") and told in done[2] and old.read_bytes() == CARD.read_bytes(), done[2].decode())
+    found.hold("and nothing else is left", not list(place.glob("*.card.*")) and not list((place / "folder.card").iterdir()))
+
+
 def odd_places(found, place):
     """An odd name, a symbolic link, and a PATH without python3."""
     shutil.copy(CARD, place / ODD_NAME)
@@ -154,11 +210,16 @@ def odd_places(found, place):
     title = checks.title_of(drawn(place / "odd.svg") or b"")
     found.hold("its picture has its name", title == ODD_NAME.replace("\x01", "\ufffd"), str(title))
     (place / "bin").mkdir()
-    for name in "cat cp dirname find head mkdir mktemp mv readlink rm sed sh sha256sum sort tail".split():
+    for name in "cat cp dirname find grep head mkdir mktemp mv readlink rm sed sh sha256sum sort tail".split():
         (place / "bin" / name).symlink_to(shutil.which(name))
     bare = {"PATH": str(place / "bin")}
     found.hold("without python3 a card is flown", checks.run([FLY, CARD], env=bare) == (0, right(), b""))
     found.hold("and one refused", checks.run([FLY, ROOT / "examples/loop.card"], env=bare) == (1, b"card 9\n", b""))
+    found.hold("and a text", checks.run([FLY, TEXT], env=bare) == (0, right(), b""))
+    for name, text, told in (("bad", "quadplane\nprime\n", b"line 2: "), ("odd", "quadplane\nprime z=0 next=0\n", b"oracle/card")):
+        (place / f"{name}.txt").write_text(text)
+        status, said, words = checks.run([FLY, place / f"{name}.txt"], env=bare)
+        found.hold(f"and what is wrong with one that is {name} is told by the writer", (status, said) == (2, b"") and told in words, words.decode())
     status, said, words = checks.run([FLY, "--table", CARD], env=bare)
     found.hold("and a table asks for it", (status, said) == (2, b"") and b"needs python3" in words, words.decode())
 
@@ -183,7 +244,7 @@ def left_behind(found, place):
 
 def misuse(found, place):
     """What is no flight: status 2 and a line of words, and nothing on standard output."""
-    (place / "bad.txt").write_text("quadplane\n")
+    (place / "bad.txt").write_text("quadplane 9\n")
     shutil.copy(CARD, place / "card.svg")
     tries = [[CARD, "--table"], ["--picture", CARD], ["--picture", "x.png", CARD], ["--tables", CARD], [CARD, CARD], [place / "none"], [place], [place / "bad.txt"], ["--picture", place / "no/x.svg", CARD], ["--picture", place / "card.svg", place / "card.svg"], [""]]
     for words in tries:
@@ -218,17 +279,19 @@ def text_form(found):
         found.hold("oracle/card stopped by Ctrl-C says nothing", waits.communicate() == (b"", b"") and waits.returncode == 130)
 
 
-def all_commands(found, runner):
+def all_commands(found, runner, writer):
     # Signals that whoever started this ignores are not to be ignored by the flights.
     signal.signal(signal.SIGINT, signal.default_int_handler)
     for kind in (signal.SIGTERM, signal.SIGHUP):
         signal.signal(kind, signal.SIG_DFL)
     with tempfile.TemporaryDirectory() as place:
         place = pathlib.Path(place)
-        clone = Clone(place, runner)
+        clone = Clone(place, runner, writer)
         building(found, clone)
+        texts(found, clone)
         rebuilding(found, clone)
         flights(found, place)
+        writes(found, place)
         odd_places(found, place)
         left_behind(found, place)
         misuse(found, place)

@@ -7,6 +7,8 @@ import re
 import card_text
 import checks
 import flight_card as fc
+import some_texts
+import writer_texts
 from flight import flown
 from picture import picture
 from table import shown, table_of
@@ -42,7 +44,18 @@ BAD_TEXTS = [
     ("step plane next=1 dt=1", 1, "has no 'next'"),
     ("cut", 1, "cut REASON"),
     ("cut 256", 1, "11 Unsupported"),
-    ("cut RollError", 1, "15 RollError"),
+    ("cut Rollerror", 1, "15 RollError"),
+    ("cut RollError 15", 1, "15 RollError"),
+    ("quadplane 9 lift_ramp_s=4", 1, "'9' has no name"),
+    ("quadplane lift_ramp_s=4 lift_ramp_s=4", 1, "stands twice"),
+    ("quadplane back_done_cosine=1", 1, "a quadplane has no setting 'back_done_cosine'"),
+    ("quadplane lift_ramp_s", 1, "has 1 number"),
+    ("quadplane lift_ramp_s =4", 1, "has no name"),
+    ("tailsitter\nsettings lift_ramp_s=4", 2, "a tailsitter has no setting 'lift_ramp_s'"),
+    ("prime z=0\nsettings timeout_s=4", 2, "the first line is no header"),
+    ("prime z=0\nsettings", 2, "the first line is no header"),
+    ("prime\vz=0", 1, "begins no record"),
+    ("prime z=0\u00a0", 1, "is no number"),
     ("step Plane dt=1", 1, "in small letters"),
     ("step plane dt = 1", 1, "without a space"),
     ("step plane dt=1 attitude=1,0,0,0 demand=0,5", 1, "no comma"),
@@ -51,6 +64,9 @@ BAD_TEXTS = [
     ("land now", 1, "begins no record"),
     ("prime z=0 times=800\n" * 82, 82, "more than 65536 records"),
 ]
+# Headers with the default settings.
+GOOD = "quadplane 9 5 15 5 0 3 5 10 2 0.1 1 0.33 0.05235988 0.5 0.7853982"
+GOOD_TAILSITTER = "tailsitter 0.87266463 0.7853982 1.3962634 0 0.87266463 0.7853982 15 5 0 0.5 0.5 1 0.4 0.5 0.7853982 0.70710677 0.70710677"
 # Texts that are taken, and the same in plain words.
 SAME_TEXTS = [
     ("\ufeffprime z=1\r\nprime z=2\r\n", "prime z=1\nprime z=2\n"),
@@ -65,9 +81,15 @@ SAME_TEXTS = [
     ("prime z=1.000000059604644775390625", "prime z=x3F800000"),
     ("prime z=1.000000178813934326171875", "prime z=x3F800002"),
     ("prime z=-1.00000017881393432617187500001", "prime z=xBF800002"),
+    ("prime z=1\rprime\tz=2\r", "prime z=1\nprime z=2\n"),
+    ("cut RollError\ncut BelowPlaneMinAltitude", "cut 15\ncut 16"),
+    ("quadplane", GOOD),
+    ("tailsitter\nsettings", f"{GOOD_TAILSITTER}\nsettings{GOOD_TAILSITTER[10:]}"),
+    ("quadplane roll_limit_rad=2 min_airspeed_mps=3", GOOD.replace("plane 9", "plane 3").replace("0.7853982", "2")),
+    ("quadplane timeout_s=7\nsettings min_airspeed_mps=3 times=2", f"{GOOD.replace(' 15 ', ' 7 ')}\n" + f"settings{GOOD[9:].replace(' 9 ', ' 3 ')}\n" * 2),
+    (f"record 6 0{GOOD[9:]}\nsettings", f"{GOOD}\nsettings{GOOD[9:]}"),
 ]
-# Texts of refused cards, and words of why; GOOD is a header.
-GOOD = "quadplane 9 5 15 5 0 3 5 10 2 0.1 1 0.33 0.05235988 0.5 0.7853982"
+# Texts of refused cards, and words of why.
 REFUSED_CARDS = [
     ("prime z=0", "10: record 0 is of kind 1; the header is of one of these: 5 tailsitter, 6 quadplane"),
     (f"record 6 1 {GOOD[10:]}", "10: record 0, a quadplane, has option 1; it has to be 0"),
@@ -102,6 +124,19 @@ def texts(found):
         found.hold(f"text {ascii(text)} is {ascii(plain)}", card_text.encode(text.encode()) == card_text.encode(plain.encode()))
     found.hold("a text in UTF-16 is told", "UTF-16" in said_of("prime z=0".encode("utf-16")))
     found.hold("a card of 79 bytes has no text", "79 bytes" in decoded(bytes(79)))
+
+
+def bad_settings(headers):
+    """Of each header the bad setting, or 0; 0 where there is no header."""
+    return [fc.bad_setting(card[0], fc.records_of(card)[0]) if card else 0 for card in headers]
+
+
+def written_texts(found, writer):
+    """Texts through the writer: its cards, refusals and lines are those of the text form."""
+    given = [path.with_suffix(".txt").read_bytes() for path in EXAMPLES] + [text.encode() for text, *_ in BAD_TEXTS + SAME_TEXTS]
+    given += [some_texts.a_text(1, index) for index in range(TEXTS)]
+    differ = [given[i] for i, *_ in writer_texts.differing(given, bad_settings, [writer])]
+    found.hold(f"{len(given)} texts through the writer", not differ, f"{len(differ)} differ, the first is {differ[:1]}")
 
 
 def refusals(found, runner):
@@ -208,9 +243,10 @@ def verdict(card):
     return f"card {found.number}" + f" {found.field}" * (found.number == 3)
 
 
-def all_forms(found, runner):
+def all_forms(found, runner, writer):
     texts(found)
     any_text(found)
+    written_texts(found, writer)
     refusals(found, runner)
     for number, places, words in SHOWN:
         found.hold(f"{number} with {places} decimals", shown(number, places) == words, shown(number, places))

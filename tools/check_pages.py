@@ -9,7 +9,8 @@ from pages import CARD_PAGE, PARTS, ROOT, SETTINGS_CODE, SETTINGS_PAGE, TABLES, 
 from tool import Bad
 
 WRITE = "python3 -B tools/pages.py write"
-JOINED_SETTINGS_CODE, RECORD_CODE = "crates/joined/src/settings.rt", "crates/card/src/record.rt"
+JOINED_SETTINGS_CODE, RECORD_CODE, KINDS_CODE = "crates/joined/src/settings.rt", "crates/card/src/record.rt", "crates/card/src/kind.rt"
+NAMES_CODE = "crates/writer/src/names.rt"
 REASONS_CODE, LETTERS_CODE, REFUSALS_CODE = "crates/machines/src/lib.rt", "crates/joined/src/answer.rt", "crates/card/src/refusal.rt"
 # Of each airframe: the struct of its settings, the constant of its defaults, and the function that makes the struct of a record's numbers.
 CODE = {fc.TAILSITTER: ("TransitionConfig", "TRANSITION_DEFAULTS", "transition_config"), fc.QUADPLANE: ("LiftTransitionConfig", "LIFT_TRANSITION_DEFAULTS", "lift_transition_config")}
@@ -157,8 +158,9 @@ def check_parts(found):
 def check_words(found):
     """Kinds, reports, reasons of a cut, mode letters and refusals, by their names in the code."""
     record, reasons, refusals = source(RECORD_CODE), source(REASONS_CODE), source(REFUSALS_CODE)
-    kinds = {int(number): name for number, name in re.findall(r"^ +(\d+) => .*?(Call::\w+|cut_for|Airframe::\w+)\(?", record, re.M) if name != "Call::Cut"}
-    same_words(found, "kinds", KIND_CODE, kinds, RECORD_CODE)
+    numbers = {name: int(number) for name, number in re.findall(r"const (\w+): u8 = (\d+);", source(KINDS_CODE))}
+    kinds = {numbers.get(kind, kind): name for kind, name in re.findall(r"^ +([A-Z]+) => .*?(Call::\w+|cut_for|Airframe::\w+)\(?", record, re.M)}
+    same_words(found, "kinds", KIND_CODE, kinds, f"{RECORD_CODE} by {KINDS_CODE}")
     numbered = {int(number): name for name, number in re.findall(r"ModeRefusal::(\w+) => (\d+)", reasons)}
     same_words(found, "REPORTS", fc.REPORTS, numbered, REASONS_CODE)
     cuts = {int(number): name for number, name in re.findall(r"(\d+) => Record::Known\(Call::Cut\(ModeRefusal::(\w+)\)\)", record)}
@@ -170,6 +172,13 @@ def check_words(found):
     same_words(found, "the refusals of a card", dict.fromkeys(fc.CARD_REFUSALS, "a refusal"), dict.fromkeys(cards | {3}, "a refusal"), REFUSALS_CODE)
     same_words(found, "REFUSALS", dict.fromkeys(fc.REFUSALS, "words"), dict.fromkeys([*fc.CALL_REFUSALS, *fc.CARD_REFUSALS], "words"), "its two lists of refusals")
     found.hold("the bits of a step's option", sum(fc.OPTION_BITS) == max(fc.OPTIONS[fc.STEP]), f"{TABLES} has options up to {max(fc.OPTIONS[fc.STEP])}, OPTION_BITS has bits up to {sum(fc.OPTION_BITS)}")
+
+
+def check_names(found):
+    """The names that the writer of texts takes."""
+    ours = {fc.KINDS[airframe].upper(): " ".join(setting.name for setting in settings) for airframe, settings in fc.SETTINGS_OF.items()}
+    ours |= {"STEP": " ".join(part.name for part in fc.PARTS), "PRIME": "z", "REASONS": " ".join(fc.REPORTS[option] for option in fc.OPTIONS[fc.CUT])}
+    same_words(found, "the names of a text", ours, dict(re.findall(r'const (\w+): \[u8; \d+\] =\s*\*b"([^"]*)";', source(NAMES_CODE))), NAMES_CODE)
 
 
 def same_words(found, what, ours, code, where):
@@ -196,5 +205,5 @@ def all_pages(found):
     broken = broken_tables()
     found.hold(TABLES, not broken, broken)
     if not broken:
-        for check in (check_settings_page, check_card_page, check_settings, check_units, check_readers, check_parts, check_words):
+        for check in (check_settings_page, check_card_page, check_settings, check_units, check_readers, check_parts, check_words, check_names):
             held(found, check, found)

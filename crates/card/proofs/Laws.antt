@@ -11,4 +11,11 @@ pub mod Headers
 pub mod Binary32
 pub mod Room
 pub mod Accepted
+-- of the writer: bytes of its records, one record read back, the records of a card, the whole card, what each answer says, and worked examples
+pub mod Words
+pub mod RoundTrip
+pub mod WrittenRecords
+pub mod WrittenCard
+pub mod WriterAnswers
+pub mod WriterExamples
 pub mod Example

@@ -1,9 +1,10 @@
 -- Document 01, section 7: what the records of a card say. Definitions only. Assumes nothing.
-use Prim.Native.Nat.{ℕ, _+_, _*_}
+use Prim.Native.Nat.{ℕ, _+_, _*_, _/_}
 use mathlib.Core.Bool.{Bool, true, false}
 use mathlib.Core.List.{List}
 use lib.Ieee.{Float}
-use lib.Dec.{eqb, leb}
+use lib.ListN.{length}
+use lib.Dec.{eqb, leb, ltb}
 use Rattle.numbers.specs.Numbers.{if_then_else_}
 use Rattle.machines.specs.declared.VehicleState.{VehicleState}
 use Rattle.machines.specs.declared.ModeRefusal.the-variants as reason
@@ -11,6 +12,7 @@ use Rattle.joined.specs.declared.settings.Settings.{Settings}
 use Rattle.joined.specs.declared.call.StepInput.{StepInput}
 use Rattle.joined.specs.declared.call.Call.{Call}
 use Rattle.joined.specs.declared.call.Call.the-variants as call
+use Rattle.joined.specs.declared.machine.Airframe.{Airframe}
 use Rattle.joined.specs.declared.machine.Airframe.the-variants as airframe
 use Rattle.joined.specs.declared.joined.NewJoined.{NewJoined}
 use Rattle.joined.specs.declared.joined.NewJoined.the-variants as made
@@ -22,6 +24,24 @@ use Rattle.card.specs.declared.record.Record.{Record}
 use Rattle.card.specs.declared.record.Record.the-variants as says
 use Rattle.card.specs.declared.record.Header.{Header}
 use Rattle.card.specs.declared.record.Header.the-variants as header
+
+-- ---- the kinds, for reader and writer (specs/Encoding.antt): "1 prime (2 = z); 2 step; 3 cut, option 11 to 16; 4 settings"
+abbrev pub primeKind : ℕ
+primeKind = 1
+
+abbrev pub stepKind : ℕ
+stepKind = 2
+
+abbrev pub cutKind : ℕ
+cutKind = 3
+
+abbrev pub settingsKind : ℕ
+settingsKind = 4
+
+-- "Record 0 is the header: kind 5 tailsitter, 6 quadplane"
+abbrev pub headerKind : Airframe → ℕ
+headerKind airframe.Tailsitter = 5
+headerKind airframe.Quadplane = 6
 
 -- ---- of record i: "records of 80 bytes, little-endian: byte 0 kind, byte 1 option, bytes 2-3 next index (u16, 0 ends the chain), then numbers 1 to 19, unused ones ignored"
 abbrev pub kindAt : List ℕ → ℕ → ℕ
@@ -75,11 +95,15 @@ newSettingsAt card i = knownIf (eqb (optionAt card i) 0) (call.Settings (setting
 -- by its kind
 unfoldable pub recordAt : List ℕ → ℕ → Record
 recordAt card i =
-    if eqb (kindAt card i) 1 then primeAt card i
-    else if eqb (kindAt card i) 2 then stepAt card i
-    else if eqb (kindAt card i) 3 then cutFor (optionAt card i)
-    else if eqb (kindAt card i) 4 then newSettingsAt card i
+    if eqb (kindAt card i) primeKind then primeAt card i
+    else if eqb (kindAt card i) stepKind then stepAt card i
+    else if eqb (kindAt card i) cutKind then cutFor (optionAt card i)
+    else if eqb (kindAt card i) settingsKind then newSettingsAt card i
     else says.Unknown
+
+-- of any bytes: only a whole record says something
+unfoldable pub readOf : List ℕ → ℕ → Record
+readOf card i = if ltb i (length card / 80) then recordAt card i else says.Unknown
 
 -- "10 kind or option" spares a record
 abbrev pub isKnown : Record → Bool
@@ -95,7 +119,7 @@ headerFor (made.Refused why) = header.Refused (refusal.Header why)
 unfoldable pub headerOf : List ℕ → Header
 headerOf card =
     if eqb (optionAt card 0) 0 then
-    (if eqb (kindAt card 0) 5 then headerFor (newOf airframe.Tailsitter (settingsAt card 0))
-    else if eqb (kindAt card 0) 6 then headerFor (newOf airframe.Quadplane (settingsAt card 0))
+    (if eqb (kindAt card 0) (headerKind airframe.Tailsitter) then headerFor (newOf airframe.Tailsitter (settingsAt card 0))
+    else if eqb (kindAt card 0) (headerKind airframe.Quadplane) then headerFor (newOf airframe.Quadplane (settingsAt card 0))
     else header.Refused refusal.KindOrOption)
     else header.Refused refusal.KindOrOption

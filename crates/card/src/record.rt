@@ -1,6 +1,12 @@
 // The records of a card (document 01, section 7).
 use crate::bytes::f32_at;
 use crate::bytes::u16_at;
+use crate::kind::CUT;
+use crate::kind::PRIME;
+use crate::kind::QUADPLANE;
+use crate::kind::SETTINGS;
+use crate::kind::STEP;
+use crate::kind::TAILSITTER;
 use crate::refusal::CardRefusal;
 use joined::call::Call;
 use joined::call::StepInput;
@@ -19,10 +25,10 @@ ghost use mathlib.Core.Path.{_≡_};
 ghost use Prim.Native.Nat.{_+_, _*_, _≤_, _<_};
 ghost use lib.ListN.{length};
 ghost use Rattle.joined.specs.Joined.{newOf};
-ghost use Rattle.card.specs.Format.{nextAt, kindAt, optionAt, numberAt, settingsAt, vehicleAt, stepInputAt, knownIf, cutFor, recordAt, isKnown, headerFor, headerOf};
+ghost use Rattle.card.specs.Format.{nextAt, kindAt, optionAt, numberAt, settingsAt, vehicleAt, stepInputAt, knownIf, cutFor, recordAt, readOf, isKnown, headerFor, headerOf};
 
 // What a record after the header says: a call, or a kind or option that section 7 does not name.
-pub(crate) enum Record {
+pub enum Record {
     Known(Call),
     Unknown,
 }
@@ -169,11 +175,22 @@ pub(crate) fn record_at(card: &[u8], i: usize) -> Record
     let kind = kind_at(card, i);
     let option = option_at(card, i);
     match kind {
-        1 => known_if(option == 0, Call::Prime(number_at(card, i, 2))),
-        2 => known_if(option <= 3, Call::Step(step_input_at(card, i))),
-        3 => cut_for(option),
-        4 => known_if(option == 0, Call::Settings(settings_at(card, i))),
+        PRIME => known_if(option == 0, Call::Prime(number_at(card, i, 2))),
+        STEP => known_if(option <= 3, Call::Step(step_input_at(card, i))),
+        CUT => cut_for(option),
+        SETTINGS => known_if(option == 0, Call::Settings(settings_at(card, i))),
         _ => Record::Unknown,
+    }
+}
+
+// What record i of any bytes says; an index past the card's whole records names no call, nor does a header.
+pub fn read_record(card: &[u8], i: usize) -> Record
+    ensures { λ r. ⌜ r ≡ readOf (now (card .entry)) i ⌝ }
+{
+    if i < card.len() / 80 {
+        record_at(card, i)
+    } else {
+        Record::Unknown
     }
 }
 
@@ -211,8 +228,8 @@ pub(crate) fn header_of(card: &[u8]) -> Header
     }
     let kind = kind_at(card, 0);
     match kind {
-        5 => header_for(card, Airframe::Tailsitter),
-        6 => header_for(card, Airframe::Quadplane),
+        TAILSITTER => header_for(card, Airframe::Tailsitter),
+        QUADPLANE => header_for(card, Airframe::Quadplane),
         _ => Header::Refused(CardRefusal::KindOrOption),
     }
 }

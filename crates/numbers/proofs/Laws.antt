@@ -8,6 +8,7 @@ pub mod Operations
 pub mod Ranged
 pub mod Rounding
 pub mod Nearest
+pub mod NearestFraction
 pub mod Choices
 pub mod Clock
 pub mod Blend
@@ -17,4 +18,5 @@ pub mod Newton
 pub mod RootNearest
 pub mod RootPattern
 pub mod RootCases
+pub mod Quotient
 pub mod Examples

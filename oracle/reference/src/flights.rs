@@ -11,7 +11,7 @@ mod rows;
 mod usual;
 
 pub use chains::{LONGEST, SHORT_SHAPES};
-pub use classes::{ends, past_ends};
+pub use classes::{bad_settings, ends, extreme_settings, past_ends};
 
 use crate::card::in_order;
 use crate::machine::Airframe;

@@ -1,4 +1,4 @@
-//! The Rust reference: the joined machine, the card's check and transcript and the list of calls, over the unchanged text of stable-flight.
+//! The Rust reference: the joined machine, the card's check, transcript and writer and the list of calls, over the unchanged text of stable-flight.
 
 pub mod call_list;
 pub mod calls;
@@ -14,3 +14,5 @@ pub mod named;
 pub mod random;
 pub mod settings;
 pub mod track;
+pub mod write;
+pub mod write_list;

@@ -1,6 +1,6 @@
 //! The commands of the reference; the scripts beside the workspace call them.
 
-use reference::{call_list, calls, card, compare, coverage, entry, flights, marks, named};
+use reference::{call_list, calls, card, compare, coverage, entry, flights, marks, named, write, write_list};
 use std::io::{self, Read, Write};
 use std::process::ExitCode;
 
@@ -17,6 +17,9 @@ const USAGE: &str = "usage: reference COMMAND
   make-entry SEED N   such a list, of N cards of a seed and of those with a name
   marks               the answers to a list of checks on standard input
   make-marks SEED     a list of checks
+  writes              the answers of the writer to lists of calls on standard input
+  make-writes SEED N  N such lists of a seed
+  compare-writes N SEED PROGRAM..   N such lists through the program, each held against the writer's answer
   compare N SEED RUNNER..   N cards through the runner, each held against the transcript
 ";
 
@@ -24,18 +27,21 @@ fn main() -> ExitCode {
     let arguments: Vec<String> = std::env::args().skip(1).collect();
     let words: Vec<&str> = arguments.iter().map(String::as_str).collect();
     match words[..] {
-        ["transcript"] => write(card::transcript(&read()).as_bytes()),
-        ["transcripts"] => write(transcripts(&read()).as_bytes()),
-        ["named-cards"] => write(&card::list(named::all().into_iter().map(|named| named.card))),
-        ["make-cards", seed, count] => write(&card::list(flights::first(number(seed), number(count)))),
-        ["coverage"] => write(coverage::report(&read()).as_bytes()),
-        ["calls"] => write(calls::answers(&read()).as_bytes()),
-        ["make-calls", seed] => write(&call_list::make(number(seed))),
-        ["count-calls"] => write(call_list::counts(&read()).as_bytes()),
-        ["entry"] => write(entry::answers(&read()).as_bytes()),
-        ["make-entry", seed, count] => write(&entry::make(number(seed), number(count))),
-        ["marks"] => write(marks::answers(&read()).as_bytes()),
-        ["make-marks", seed] => write(&marks::make(number(seed))),
+        ["transcript"] => put(card::transcript(&read()).as_bytes()),
+        ["transcripts"] => put(transcripts(&read()).as_bytes()),
+        ["named-cards"] => put(&card::list(named::all().into_iter().map(|named| named.card))),
+        ["make-cards", seed, count] => put(&card::list(flights::first(number(seed), number(count)))),
+        ["coverage"] => put(coverage::report(&read()).as_bytes()),
+        ["calls"] => put(calls::answers(&read()).as_bytes()),
+        ["make-calls", seed] => put(&call_list::make(number(seed))),
+        ["count-calls"] => put(call_list::counts(&read()).as_bytes()),
+        ["entry"] => put(entry::answers(&read()).as_bytes()),
+        ["make-entry", seed, count] => put(&entry::make(number(seed), number(count))),
+        ["marks"] => put(marks::answers(&read()).as_bytes()),
+        ["make-marks", seed] => put(&marks::make(number(seed))),
+        ["writes"] => put(&write::answers(&read())),
+        ["make-writes", seed, count] => put(&write_list::make(number(seed), number(count))),
+        ["compare-writes", count, seed, ref program @ ..] if !program.is_empty() => compare::lists(number(count), number(seed), program),
         ["compare", count, seed, ref runner @ ..] if !runner.is_empty() => compare::cards(number(count), number(seed), runner),
         _ => {
             eprint!("{USAGE}");
@@ -50,7 +56,7 @@ fn read() -> Vec<u8> {
     bytes
 }
 
-fn write(bytes: &[u8]) -> ExitCode {
+fn put(bytes: &[u8]) -> ExitCode {
     match io::stdout().write_all(bytes) {
         Ok(()) => ExitCode::SUCCESS,
         Err(_) => ExitCode::FAILURE,

@@ -20,7 +20,7 @@ use Rattle.card.specs.declared.chain.Checked.{Checked}
 use Rattle.card.proofs.Laws.Cases.{impossible, outcomeIf}
 
 -- "quadplane settings 9 4 15 5 0 2 5 10 2 0 1 .25 .0625 0 .75; prime z 0; steps with z 10, demand .5, attitude 1 0 0 0, bank 0: ..; the rest 0"
-pub example-card : List ℕ
+unfoldable pub example-card : List ℕ
 example-card =
     -- 0: the header: a quadplane with settings 9 4 15 5 0 2 5 10 2 0 1 .25 .0625 0 .75
     6 ∷ 0 ∷ 1 ∷ 0 ∷ 0 ∷ 0 ∷ 16 ∷ 65 ∷ 0 ∷ 0 ∷ 128 ∷ 64 ∷ 0 ∷ 0 ∷ 112 ∷ 65 ∷ 0 ∷ 0 ∷ 160 ∷ 64 ∷ 0 ∷ 0 ∷ 0 ∷ 0 ∷ 0 ∷ 0 ∷ 0 ∷ 64 ∷ 0 ∷ 0 ∷ 160 ∷ 64 ∷ 0 ∷ 0 ∷ 32 ∷ 65 ∷ 0 ∷ 0 ∷ 0 ∷ 64

@@ -44,3 +44,6 @@ pub at-start : {d d′ : List ℕ} {r : ℕ} {s : List ℕ} → Written d 0 s d�
 at-start {d} {d′} {r} {s} w h =
     let z : 0 + length s ≡ length s = zero-add (length s) in
     w .text ∙ sets-eq s d 0 (omega (arith, w .next)) ∙ ap (λ (k : ℕ). s ++ drop k d) z
+
+pub at-start-to : {d d′ : List ℕ} {r : ℕ} {s : List ℕ} → Written d 0 s d′ r → r ≤ length d → d′ ≡ s ++ drop r d
+at-start-to {d} {d′} {r} {s} w h = at-start w h ∙ ap (λ (k : ℕ). s ++ drop k d) (sym (w .next ∙ zero-add (length s)))

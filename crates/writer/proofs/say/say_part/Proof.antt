@@ -1,0 +1,17 @@
+-- `writer::say::say_part` is safe and ends. The measure is the number of bytes that are left. Assumes nothing.
+use Prim.Native.Nat.{_-_}
+use borrow.Author.Needs.{needs}
+use Rattle.writer.proofs.say.say_part.Statement.{statement}
+use Rattle.writer.proofs.say.say_part.Tie as tie
+
+abbrev Inv-loop : tie.InvT-loop
+Inv-loop text from to end i₀ t6 i = Unit {0}
+
+abbrev μ-loop : tie.MeasureT-loop
+μ-loop text from to end i₀ t6 i = end - i
+
+pub say-part-spec : {M : Type 1} → statement M
+say-part-spec =
+    tie.close
+    (tie.spec
+    Inv-loop μ-loop (λ c κs. search needs) (λ c. search needs) (λ c κs. search needs) (λ c κs. search needs) (λ c. search needs) (λ c. search needs) (λ c. search needs) (λ c. search needs) (λ c κs. search needs) (λ c. search needs) (λ c. search needs))

@@ -46,7 +46,7 @@ PARTS = [
     Part("airspeed", 12, 1, "m/s", "the airspeed; read only if the option says that it is there, and used only if it is 0 or above"),
     Part("entry_tilt", 13, 1, "rad", "the angle of the tailsitter's nose from straight up; 0 to π, else its step is refused with 2 (unless nose-up is not finite); not looked at on the quadplane"),
     Part("bank", 14, 1, "rad", "the bank; past roll_limit_rad on either side, a transition is cut; NaN never is"),
-    Part("demand", 15, 1, "", "the throttle that is demanded, 0 to 1; less counts as 0, more as 1, NaN as 0"),
+    Part("demand", 15, 1, "", "the throttle that is demanded, 0 to 1; less counts as 0, more as 1, NaN as 0; not looked at where a step ends in a tailsitter's transition or a quadplane's ToPlane"),
 ]
 PRIME_Z = 2
 PLACE = {part.name: part.first for part in PARTS}
@@ -157,8 +157,8 @@ QUADPLANE_SETTINGS = [
     Setting("back_timeout_s", "s", "(0, ∞)", "10", "after more than this ToCopter ends in Copter", "machines/lift: moved"),
     Setting("back_decel_mps2", "m/s²", "[0, ∞)", "2", "the deceleration that ToCopter aims at", "joined/thrust: decelerated"),
     Setting("back_decel_i", "rad·s/m", "[0, ∞)", "0.1", "how fast the pitch grows by what the deceleration lacks; at 0 it does not change", "joined/thrust: decelerated"),
-    Setting("forward_thrust", "", "[0, 1]", "1", "only checked: the thrust in ToPlane is the demand, through a running handoff", ""),
-    Setting("pusher_slew_per_s", "1/s", "(0, ∞)", "0.33", "only checked: the machine does not slew the pusher's thrust", ""),
+    Setting("forward_thrust", "", "[0, 1]", "1", "the largest thrust in ToPlane; the demand is not looked at there", "joined/thrust: run_up"),
+    Setting("pusher_slew_per_s", "1/s", "(0, ∞)", "0.33", "how fast the thrust rises in ToPlane up to setting 11, from 0 at the step that enters it", "joined/thrust: run_up"),
     Setting("forward_pitch_max_rad", "rad", "(0, π/2)", "0.05235988", "only checked; a caller of the helper forward_pitch_limit_rad gives it this number", ""),
     Setting("handoff_s", "s", "[0, ∞)", "0.5", "how long a handoff takes from the thrust before it to the demand, from the beginning of the step that starts it; 0 is at once", "joined/machine: handoff_s"),
     Setting("roll_limit_rad", "rad", "(0, π]", "0.7853982", "banked further than this in ToPlane or ToCopter, the transition is cut (in ToPlane report 15)", "joined/machine: roll_limit_rad"),

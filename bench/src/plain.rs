@@ -79,7 +79,7 @@ impl Joined {
         if entered(FlightMode::ToCopter) {
             self.deceleration.reset();
         }
-        self.thrust = self.thrust_in(moved.mode, input);
+        self.thrust = self.thrust_in(before, moved.mode, input);
         Ok(Line {
             moved,
             thrust: self.thrust,
@@ -125,12 +125,17 @@ impl Joined {
     }
 
     /// The step's thrust, by the mode after it; the quadplane's back transition advances the pitch.
-    fn thrust_in(&mut self, mode: FlightMode, input: &StepInput) -> f32 {
+    fn thrust_in(&mut self, before: FlightMode, mode: FlightMode, input: &StepInput) -> f32 {
         let field = |number: usize| self.settings[number - 1];
         match (&self.machine, mode) {
             (Machine::Tailsitter(_), FlightMode::ToPlane) => field(10),
             (Machine::Tailsitter(_), FlightMode::ToCopter) => {
                 open::guard_sink(field(11), input.state.velocity_mps.z, field(12), field(13)).unwrap_or(field(11))
+            }
+            (Machine::Quadplane(_), FlightMode::ToPlane) if before != FlightMode::ToPlane => 0.0,
+            (Machine::Quadplane(_), FlightMode::ToPlane) => {
+                let (most, risen) = (field(11), self.thrust + field(12) * input.dt);
+                if risen < most { risen } else { most }
             }
             (Machine::Quadplane(_), FlightMode::ToCopter) => {
                 self.deceleration.advance(input.dt, &input.state, field(9), field(10));

@@ -1,4 +1,4 @@
-// The joined machine (document 01, section 6).
+// The joined machine (document 01, section 6; document 02, 2.2).
 use crate::answer::Answer;
 use crate::answer::Line;
 use crate::call::Call;
@@ -123,13 +123,15 @@ impl Joined {
     fn stepped(self, machine: Machine, step: TransitionStep, input: StepInput) -> Joined
         ensures { λ r. ⌜ r ≡ stepped self machine step input ⌝ }
     {
-        let before = self.machine;
+        let found = self.machine;
+        let before = found.mode();
         let after = step.mode;
         let pitch = self.deceleration;
-        let pitch = entry_pitch(before.mode(), after, pitch);
+        let pitch = entry_pitch(before, after, pitch);
         let deceleration = machine.stepped_pitch(after, input, pitch);
-        let starts = starts_handoff(before.mode(), after, step.handoff);
-        let thrusted = machine.thrust(after, self.handoff_if(starts, machine), input);
+        let starts = starts_handoff(before, after, step.handoff);
+        let handoff = self.handoff_if(starts, machine);
+        let thrusted = machine.thrust(before, after, self.thrust, handoff, input);
         let handoff = thrusted.handoff;
         Joined {
             machine,

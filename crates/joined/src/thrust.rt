@@ -1,4 +1,4 @@
-// The handoff, the pitch and the thrust of a step (document 01, sections 5 and 6).
+// The handoff, the pitch and the thrust of a step (document 01, sections 5 and 6; document 02, 2.2).
 use crate::answer::letter;
 use crate::call::StepInput;
 use crate::machine::Machine;
@@ -6,14 +6,16 @@ use machines::FlightMode;
 use machines::deceleration::BackDeceleration;
 use machines::handoff::ThrustAnswer;
 use machines::handoff::ThrustHandoff;
+use machines::settings::LiftTransitionConfig;
 use machines::settings::TransitionConfig;
 use machines::sink::GuardedThrust;
 use machines::sink::guard_sink;
 use numbers::logic::both;
 use numbers::logic::either;
+use numbers::math::min;
 ghost use mathlib.Core.Path.{_≡_};
 ghost use Rattle.joined.specs.Machine.{modeIs};
-ghost use Rattle.joined.specs.Joined.{freshHandoff, entered, startsHandoff, entryPitch, decelerated, steppedPitch, blended, backThrust, tailsitterThrust, thrustOf};
+ghost use Rattle.joined.specs.Joined.{freshHandoff, entered, startsHandoff, entryPitch, decelerated, steppedPitch, blended, backThrust, tailsitterThrust, runUp, quadplaneThrust, thrustOf};
 
 // A step's thrust, and the handoff after it.
 pub(crate) struct Thrusted {
@@ -112,6 +114,38 @@ fn tailsitter_thrust(
     }
 }
 
+// The quadplane's thrust in ToPlane: 0 on entering it, then rising by the slew up to the forward thrust.
+fn run_up(enters: bool, config: LiftTransitionConfig, kept: f32, dt: f32) -> f32
+    ensures { λ r. ⌜ r ≡ runUp enters config kept dt ⌝ }
+{
+    if enters {
+        0.0
+    } else {
+        min(config.forward_thrust, kept + config.pusher_slew_per_s * dt)
+    }
+}
+
+// The quadplane's thrust, by the mode after the step. In ToPlane a running handoff stands still.
+fn quadplane_thrust(
+    after: FlightMode,
+    enters: bool,
+    config: LiftTransitionConfig,
+    kept: f32,
+    handoff: ThrustHandoff,
+    input: StepInput,
+) -> Thrusted
+    ensures { λ r. ⌜ r ≡ quadplaneThrust after enters config kept handoff input ⌝ }
+{
+    if is_mode(FlightMode::ToPlane, after) {
+        Thrusted {
+            handoff,
+            thrust: run_up(enters, config, kept, input.dt),
+        }
+    } else {
+        blend(handoff, input)
+    }
+}
+
 impl Machine {
     // A fresh handoff from the kept thrust. A machine's own duration is a limit, so there is nothing to refuse.
     pub(crate) fn fresh_handoff(self, kept: f32) -> ThrustHandoff
@@ -156,21 +190,27 @@ impl Machine {
         }
     }
 
-    // The thrust, by airframe and the mode after the step.
+    // The thrust, by airframe, the modes before and after the step, and the kept thrust.
     pub(crate) fn thrust(
         self,
+        before: FlightMode,
         after: FlightMode,
+        kept: f32,
         handoff: ThrustHandoff,
         input: StepInput,
     ) -> Thrusted
-        ensures { λ r. ⌜ r ≡ thrustOf self after handoff input ⌝ }
+        ensures { λ r. ⌜ r ≡ thrustOf self before after kept handoff input ⌝ }
     {
         match self {
             Machine::Tailsitter(m) => {
                 let config = m.config;
                 tailsitter_thrust(after, config, handoff, input)
             }
-            Machine::Quadplane(_) => blend(handoff, input),
+            Machine::Quadplane(m) => {
+                let config = m.config;
+                let enters = entered(FlightMode::ToPlane, before, after);
+                quadplane_thrust(after, enters, config, kept, handoff, input)
+            }
         }
     }
 }

@@ -33,7 +33,7 @@ pub struct TransitionConfig {
     pub back_done_cosine: f32,
 }
 
-// The quadplane's settings, 1 to 15. 9, 10, 14 and 15 are read by the joined machine, 13 is the pitch limit's, and 11 and 12 are checked and not read.
+// The quadplane's settings, 1 to 15. 9 to 12, 14 and 15 are read by the joined machine, and 13 is the pitch limit's.
 // A floor (5) of 0 is off.
 pub struct LiftTransitionConfig {
     pub min_airspeed_mps: f32,

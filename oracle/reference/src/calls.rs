@@ -2,7 +2,7 @@
 
 use crate::card::{RECORD_BYTES, Record, bits, mode_letter, refused};
 use crate::joined::Line;
-use crate::machine::{Airframe, Machine, Moved, Refusal, caught, good_dt, reason};
+use crate::machine::{Airframe, Machine, Moved, Refusal, caught, first_of_zeros, good_dt, reason};
 use crate::settings::{bad_field, defaults, split_bad_field};
 use nalgebra::UnitQuaternion;
 use stable_flight::guidance::vtol::{ForwardThrust, ForwardThrustConfig, ThrustHandoff};
@@ -91,11 +91,6 @@ fn words(numbers: &[f32]) -> String {
 
 fn word_or_none(x: Option<f32>) -> String {
     x.map_or("-".to_string(), word)
-}
-
-/// min and max of two zeros may give either in the Rust; here they give the first named, as document 01, section 1, does.
-fn first_of_zeros(a: f32, b: f32, given: f32) -> f32 {
-    if a == 0.0 && b == 0.0 { a } else { given }
 }
 
 fn pair(r: &Record, first: usize) -> Vec2 {

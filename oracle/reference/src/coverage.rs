@@ -1,9 +1,10 @@
-//! What a list of cards reaches of document 01: every item is named up front, so that a missing one shows.
+//! What a list of cards reaches of document 01 and of document 02, 2.2: every item is named up front, so that a missing one shows.
 
 mod bounds;
 mod cards;
 mod numbers;
 mod rows;
+mod run_up;
 
 use crate::card::{self, MOST_RECORDS};
 use crate::joined::{Call, Joined, Line};
@@ -117,6 +118,7 @@ fn count_call(counts: &mut Counts, before: &Track, after: &Track, call: &Call, a
             let seen = Seen { before, after, call, line };
             rows::count_step(counts, &seen);
             bounds::count_step(counts, &seen);
+            run_up::count_step(counts, &seen);
             numbers::count_step(counts, before, step, 0);
         }
         (Call::Step(step), Err(Refusal::Number(refusal))) => {
@@ -154,6 +156,7 @@ fn required() -> Counts {
             bounds::name(&mut counts, &track);
         }
         bounds::name_thrust(&mut counts, &track);
+        run_up::name(&mut counts, &track);
         rows::name_fields(&mut counts, &track);
         numbers::name(&mut counts, airframe);
     }

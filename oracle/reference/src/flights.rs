@@ -8,6 +8,7 @@ mod each_mode;
 mod fitted;
 mod flight;
 mod rows;
+mod run_up;
 mod usual;
 
 pub use chains::{LONGEST, SHORT_SHAPES};

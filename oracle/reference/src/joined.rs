@@ -1,6 +1,7 @@
-//! The joined machine of document 01, section 6, over the Rust's machine, handoff, sink guard and deceleration.
+//! The joined machine of document 01, section 6, with the run-up of document 02, 2.2, over the Rust's machine, handoff, sink guard and
+//! deceleration.
 
-use crate::machine::{Airframe, Machine, Moved, Refusal, Step, reason, transitioning};
+use crate::machine::{Airframe, Machine, Moved, Refusal, Step, first_of_zeros, reason, transitioning};
 use crate::settings::Settings;
 use stable_flight::guidance::vtol::ThrustHandoff;
 use stable_flight::{FlightMode, open};
@@ -99,20 +100,32 @@ impl Joined {
             let (target, gain) = (self.field(9), self.field(10));
             self.deceleration.advance(step.dt(), &step.state(), target, gain);
         }
-        self.thrust = self.thrust_in(moved.mode, step);
+        self.thrust = self.thrust_in(before, moved.mode, step);
         Ok(moved)
     }
 
     /// The step's thrust, by the mode after it.
-    fn thrust_in(&mut self, mode: FlightMode, step: &Step) -> f32 {
+    fn thrust_in(&mut self, before: FlightMode, mode: FlightMode, step: &Step) -> f32 {
         match (self.machine.airframe(), mode) {
             (Airframe::Tailsitter, FlightMode::ToPlane) => self.field(10),
             (Airframe::Tailsitter, FlightMode::ToCopter) => {
                 let (back, climb_mps) = (self.field(11), step.state().velocity_mps.z);
                 open::guard_sink(back, climb_mps, self.field(12), self.field(13)).unwrap_or(back)
             }
+            (Airframe::Quadplane, FlightMode::ToPlane) => self.run_up(before, step.dt()),
             _ => self.handoff.apply(step.dt(), step.demand()),
         }
+    }
+
+    /// The quadplane's thrust in ToPlane: 0 on entering it, then up by field 12 in each second, as far as field 11. No handoff is applied.
+    fn run_up(&self, before: FlightMode, dt: f32) -> f32 {
+        if before != FlightMode::ToPlane {
+            return 0.0;
+        }
+        let most = self.field(11);
+        let rise = self.field(12) * dt;
+        let risen = self.thrust + rise;
+        first_of_zeros(most, risen, most.min(risen))
     }
 
     fn cut(&mut self, number: u8) -> Moved {

@@ -326,9 +326,17 @@ pub fn with_done_cosines<T>(s: &Settings, call: impl FnOnce() -> T) -> T {
     libm::with_cosines(supplied(1, 15), supplied(5, 16), call)
 }
 
-/// The tilt. `max` of two zeros may give either in the Rust; here it gives the first named, as document 01, section 1, does.
+/// The min or max of two numbers that the Rust gives. Of two zeros it may be either there; here it is the first named, as in document 01,
+/// section 1.
+pub fn first_of_zeros(a: f32, b: f32, given: f32) -> f32 {
+    if [a, b, given] == [0.0; 3] { a } else { given }
+}
+
+/// The tilt; on the way back it is the max of the ramp and 0.
 fn tilt(machine: &Transition, tilt_rad: Option<f32>) -> Option<f32> {
-    let first = open::back_ramp(machine);
-    let zeros = machine.report().mode == FlightMode::ToCopter && first == 0.0;
-    tilt_rad.map(|tilt_rad| if zeros && tilt_rad == 0.0 { first } else { tilt_rad })
+    let given = tilt_rad?;
+    match machine.report().mode {
+        FlightMode::ToCopter => Some(first_of_zeros(open::back_ramp(machine), 0.0, given)),
+        _ => Some(given),
+    }
 }

@@ -1,5 +1,7 @@
-//! Cards with a name: the example of document 01, section 7, and the inputs of docs/DIFFERENCES.md. Each comes with what the paper or
-//! that page says of it, and the tests hold the reference to that.
+//! Cards with a name: the example of document 01, section 7, the inputs of docs/DIFFERENCES.md, and those of document 02's requests. Each
+//! comes with what the paper or that page says of it, and the tests hold the reference to that.
+
+mod run_up;
 
 use crate::card::{RecordBytes, header_bytes, in_order, record_bytes, step_bytes};
 use crate::machine::{Airframe, Step};
@@ -55,6 +57,19 @@ fn plane(dt: f32, demand: f32) -> ShortStep {
     }
 }
 
+/// The same with an airspeed that begins the ramp.
+fn fast(step: ShortStep) -> ShortStep {
+    ShortStep {
+        airspeed: Some(12.0),
+        ..step
+    }
+}
+
+/// The same with a bank.
+fn banked(bank_rad: f32, step: ShortStep) -> ShortStep {
+    ShortStep { bank_rad, ..step }
+}
+
 /// The same with the nose straight up.
 fn upright(step: ShortStep) -> ShortStep {
     ShortStep {
@@ -97,19 +112,26 @@ impl Flight {
         self
     }
 
+    /// The example's settings with some fields changed.
+    fn set(mut self, changes: &[(usize, f32)]) -> Flight {
+        self.records.push(record_bytes(4, 0, &changed(&EXAMPLE, changes)));
+        self
+    }
+
     fn card(self) -> Vec<u8> {
         in_order(self.records)
     }
 }
 
+/// A quadplane with the example's settings but for some fields.
+fn quadplane(changes: &[(usize, f32)]) -> Flight {
+    Flight::new(Airframe::Quadplane, &changed(&EXAMPLE, changes))
+}
+
 /// A quadplane with its defaults but for the handoff, that has flown into Plane by line 4 with the demand 0.5.
 fn quadplane_in_plane(handoff_s: f32) -> Flight {
     let settings = changed(&defaults(Airframe::Quadplane), &[(14, handoff_s)]);
-    let fast = ShortStep {
-        airspeed: Some(12.0),
-        ..plane(1.0, 0.5)
-    };
-    Flight::new(Airframe::Quadplane, &settings).fly(&[plane(1.0, 0.5), fast, plane(5.0, 0.5)])
+    Flight::new(Airframe::Quadplane, &settings).fly(&[plane(1.0, 0.5), fast(plane(1.0, 0.5)), plane(5.0, 0.5)])
 }
 
 /// A tailsitter with its defaults but for handoff, forward and back thrust.
@@ -118,14 +140,11 @@ fn tailsitter(handoff_s: f32, forward_thrust: f32, back_thrust: f32) -> Flight {
     Flight::new(Airframe::Tailsitter, &changed(&defaults(Airframe::Tailsitter), &changes))
 }
 
-/// Document 01, section 7: the example.
+/// Document 01, section 7: the example, with the thrust of document 02, 2.2.
 fn example() -> Named {
     let steps = [
         plane(1.0, 0.5),
-        ShortStep {
-            airspeed: Some(12.0),
-            ..plane(1.0, 0.5)
-        },
+        fast(plane(1.0, 0.5)),
         plane(2.0, 0.5),
         plane(2.0, 0.5),
         copter(1.0, 0.5),
@@ -141,12 +160,12 @@ fn example() -> Named {
     .map(|step| ShortStep { tilt_rad: 0.0, ..step });
     Named {
         name: "document 01, section 7",
-        card: Flight::new(Airframe::Quadplane, &EXAMPLE).fly(&steps).card(),
+        card: quadplane(&[]).fly(&steps).card(),
         lines: vec![
             (1, "1 C 3F800000 0 0 00000000 00000000"),
-            (2, "2 F 3F800000 0 0 3F000000 00000000"),
-            (3, "3 F 3F800000 0 0 3F000000 00000000"),
-            (4, "4 F 3F000000 0 0 3F000000 00000000"),
+            (2, "2 F 3F800000 0 0 00000000 00000000"),
+            (3, "3 F 3F800000 0 0 3E800000 00000000"),
+            (4, "4 F 3F000000 0 0 3F400000 00000000"),
             (5, "5 P 00000000 1 0 3F000000 00000000"),
             (6, "6 B 00000000 0 0 3F000000 00000000"),
             (7, "7 B 3F000000 0 0 3F000000 00000000"),
@@ -156,17 +175,32 @@ fn example() -> Named {
     }
 }
 
-fn quadplane_cards() -> Vec<Named> {
-    let still_fast = ShortStep {
-        vx: 20.0,
-        ..copter(1.0, 0.5)
-    };
+fn quadplane_thrust_cards() -> Vec<Named> {
     vec![
+        Named {
+            name: "2.1, quadplane ToPlane: the demand is no bound",
+            card: quadplane(&[]).fly(&[plane(1.0, 0.125), plane(1.0, 0.125)]).card(),
+            lines: vec![(3, "3 F 3F800000 0 0 3E800000 00000000")],
+        },
         Named {
             name: "2.1, quadplane Plane: the demand is saturated",
             card: quadplane_in_plane(0.0).fly(&[plane(1.0, 2.0)]).card(),
             lines: vec![(5, "5 P 00000000 0 0 3F800000 00000000")],
         },
+        Named {
+            name: "2.2, quadplane entering ToPlane: 0, and no rise",
+            card: quadplane(&[]).fly(&[copter(1.0, 0.75), plane(1.0, 0.75), plane(1.0, 0.75)]).card(),
+            lines: vec![(3, "3 F 3F800000 0 0 00000000 00000000"), (4, "4 F 3F800000 0 0 3E800000 00000000")],
+        },
+    ]
+}
+
+fn quadplane_blend_cards() -> Vec<Named> {
+    let still_fast = ShortStep {
+        vx: 20.0,
+        ..copter(1.0, 0.5)
+    };
+    vec![
         Named {
             name: "2.2, quadplane ToCopter to Plane: from the kept thrust",
             card: quadplane_in_plane(2.0).fly(&[plane(2.0, 0.5), still_fast, plane(1.0, 0.5)]).card(),
@@ -178,17 +212,19 @@ fn quadplane_cards() -> Vec<Named> {
             lines: vec![(7, "7 C 3F800000 1 0 3E800000 3E4CCCCD")],
         },
         Named {
-            name: "2.3, quadplane: every step advances a blend",
-            card: {
-                let settings = changed(&defaults(Airframe::Quadplane), &[(14, 4.0)]);
-                let fast = ShortStep {
-                    airspeed: Some(12.0),
-                    ..plane(5.0, 0.5)
-                };
-                let steps = [plane(1.0, 0.5), fast, plane(4.0, 0.5), plane(1.0, 1.0), copter(1.0, 1.0)];
-                Flight::new(Airframe::Quadplane, &settings).fly(&steps).card()
-            },
-            lines: vec![(5, "5 P 00000000 1 0 3F200000 00000000"), (6, "6 B 00000000 0 0 3F400000 3E4CCCCD")],
+            name: "2.3, quadplane: all modes but ToPlane advance a blend",
+            card: quadplane(&[(14, 4.0)])
+                .fly(&[plane(1.0, 0.5), fast(plane(1.0, 0.5)), plane(3.0, 0.5), plane(1.0, 0.0)])
+                .fly(&[copter(1.0, 0.0), copter(1.0, 0.0), plane(1.0, 0.0), copter(1.0, 0.0)])
+                .card(),
+            lines: vec![
+                (4, "4 F 3E800000 0 0 3F800000 00000000"),
+                (5, "5 P 00000000 1 0 3F400000 00000000"),
+                (6, "6 B 00000000 0 0 3F000000 00000000"),
+                (7, "7 C 3F800000 1 0 3EC00000 00000000"),
+                (8, "8 F 3F800000 0 0 00000000 00000000"),
+                (9, "9 C 3F800000 0 0 3E800000 00000000"),
+            ],
         },
     ]
 }
@@ -264,32 +300,30 @@ fn tailsitter_blend_cards() -> Vec<Named> {
 }
 
 fn roll_cards() -> Vec<Named> {
-    let banked = |bank_rad, dt| ShortStep {
-        bank_rad,
-        ..plane(dt, 0.5)
-    };
     let usual = defaults(Airframe::Quadplane);
     let widest = changed(&usual, &[(15, PI)]);
     let forward = |settings: &Settings| Flight::new(Airframe::Quadplane, settings).fly(&[plane(1.0, 0.5)]);
     vec![
         Named {
             name: "1.2, bank: any number",
-            card: forward(&widest).fly(&[banked(PI, 1.0), banked(4.0, 1.0)]).card(),
+            card: forward(&widest)
+                .fly(&[banked(PI, plane(1.0, 0.5)), banked(4.0, plane(1.0, 0.5))])
+                .card(),
             lines: vec![
-                (3, "3 F 3F800000 0 0 3F000000 00000000"),
+                (3, "3 F 3F800000 0 0 3EA8F5C3 00000000"),
                 (4, "4 C 3F800000 0 15 3F000000 00000000"),
             ],
         },
         Named {
             name: "2.4, bad dt with a roll cut",
-            card: forward(&usual).fly(&[banked(1.0, 0.0), plane(1.0, 0.5)]).card(),
-            lines: vec![(3, "3 refused 1"), (4, "4 F 3F800000 0 0 3F000000 00000000")],
+            card: forward(&usual).fly(&[banked(1.0, plane(0.0, 0.5)), plane(1.0, 0.5)]).card(),
+            lines: vec![(3, "3 refused 1"), (4, "4 F 3F800000 0 0 3EA8F5C3 00000000")],
         },
         Named {
             name: "2.4, cut call: any reason",
             card: forward(&usual).cut(12).fly(&[plane(1.0, 0.5)]).card(),
             lines: vec![
-                (3, "3 C 3F800000 0 12 3F000000 00000000"),
+                (3, "3 C 3F800000 0 12 00000000 00000000"),
                 (4, "4 C 3F800000 0 12 3F000000 00000000"),
             ],
         },
@@ -301,10 +335,12 @@ pub fn all() -> Vec<Named> {
     let example = vec![example()];
     let parts = [
         example,
-        quadplane_cards(),
+        quadplane_thrust_cards(),
+        quadplane_blend_cards(),
         tailsitter_thrust_cards(),
         tailsitter_blend_cards(),
         roll_cards(),
+        run_up::cards(),
     ];
     parts.into_iter().flatten().collect()
 }

@@ -105,6 +105,14 @@ impl Track {
         self.handoff_elapsed_s < self.handoff_s
     }
 
+    /// Whether a step that ends in this mode applies the handoff.
+    pub fn applies_handoff(&self, after: FlightMode) -> bool {
+        match self.airframe {
+            Airframe::Tailsitter => !transitioning(after),
+            Airframe::Quadplane => after != FlightMode::ToPlane,
+        }
+    }
+
     /// Whether a step is cut on roll in the present mode.
     pub fn cut_by_roll(&self, step: &Step) -> bool {
         transitioning(self.mode) && step.bank_rad().abs() > self.roll_limit_rad()
@@ -159,8 +167,7 @@ impl Track {
         if before != after && after == FlightMode::Plane {
             self.start_handoff();
         }
-        let blends = !(self.is_tailsitter() && transitioning(after));
-        if blends && self.handoff_active() {
+        if self.applies_handoff(after) && self.handoff_active() {
             self.handoff_elapsed_s += step.dt();
         }
     }
@@ -231,8 +238,17 @@ mod tests {
         }
     }
 
-    #[test]
-    fn clock_and_start_are_the_machine_s() {
+    /// An accepted call, where it stands, and the machine before and after it.
+    struct Seen<'a> {
+        place: String,
+        before: &'a Track,
+        after: &'a Track,
+        call: &'a Call,
+        line: &'a Line,
+    }
+
+    /// The accepted calls of random cards, one after the other.
+    fn each_call(mut look: impl FnMut(&Seen)) {
         for index in 0..3000 {
             let bytes = flights::card(5, index);
             let Ok(checked) = card::check(&bytes, &mut [0; card::MOST_RECORDS]) else {
@@ -240,12 +256,50 @@ mod tests {
             };
             let mut track = Track::new(card::machine(&bytes, checked.airframe));
             for (at, call) in card::calls(&bytes, &checked.chain) {
+                let before = track.clone();
                 let Ok(line) = track.call(&call) else {
                     continue;
                 };
-                let here = output(&track).map(card::bits);
-                assert_eq!(here, line.moved.output.map(card::bits), "card {index} record {at}");
+                look(&Seen {
+                    place: format!("card {index} record {at}"),
+                    before: &before,
+                    after: &track,
+                    call: &call,
+                    line: &line,
+                });
             }
         }
+    }
+
+    #[test]
+    fn clock_and_start_are_the_machine_s() {
+        each_call(|seen| {
+            let here = output(seen.after).map(card::bits);
+            assert_eq!(here, seen.line.moved.output.map(card::bits), "{}", seen.place);
+        });
+    }
+
+    /// The handoff's thrust, from the time that is worked out beside the machine.
+    #[test]
+    fn handoff_is_the_machine_s() {
+        let mut from = 0.0;
+        each_call(|seen| {
+            let (before, after) = (seen.before, seen.after);
+            let enters_plane = before.mode != after.mode && after.mode == FlightMode::Plane;
+            let starts = seen.line.moved.handoff || enters_plane;
+            if starts {
+                from = before.thrust;
+            }
+            let Call::Step(step) = seen.call else {
+                return;
+            };
+            let active = if starts { after.handoff_s > 0.0 } else { before.handoff_active() };
+            let (weight, demand) = (after.handoff_elapsed_s / after.handoff_s, open::saturate_throttle(step.demand()));
+            let blend = from + (demand - from) * weight.min(1.0);
+            let thrust = if active { blend } else { demand };
+            if after.applies_handoff(after.mode) {
+                assert_eq!(card::bits(thrust), card::bits(seen.line.thrust), "{}", seen.place);
+            }
+        });
     }
 }

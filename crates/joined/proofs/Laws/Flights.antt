@@ -1,5 +1,6 @@
--- Worked flights: section 6 of document 01, with what it takes from sections 3 to 5, in numbers that were worked out by hand from the paper. Each call stands beside its line, and the
--- comment at its right says which sentence gives the numbers, and how. The numbers are sums of a few powers of two, π/2 or the float below one of them, so that nothing is rounded.
+-- Worked flights: section 6 of document 01, with what it takes from sections 3 to 5, and request 2.2 of document 02, in numbers that were worked out by hand from the papers. Each call
+-- stands beside its line, and the comment at its right says which sentence gives the numbers, and how. The numbers are sums of a few powers of two, π/2 or floats next to these, so that
+-- nothing is rounded; where a product or a sum is (2.2), the comment says so.
 -- Proved by working out the definitions: a change of definition and code together that changes one of these answers is refused here. Assumes nothing.
 use mathlib.Core.Path.{_≡_, refl}
 use mathlib.Core.List.{List, [], _∷_, _++_, map}
@@ -17,7 +18,7 @@ use Rattle.joined.specs.declared.machine.Airframe.{Airframe}
 use Rattle.joined.specs.declared.machine.Airframe.the-variants as airframe
 use Rattle.joined.specs.Calls.{settingsBy, vehicleBy, stepInputBy}
 use Rattle.joined.specs.Joined.{newOf}
-use Rattle.joined.specs.Shown.{Shown, line}
+use Rattle.joined.specs.Shown.{Shown, line, refused}
 use Rattle.joined.proofs.Laws.Starred.{half, four, ten, C, P, F, B, shownFrom, prime}
 
 -- ---- numbers, by their bits
@@ -44,6 +45,20 @@ five-quarters = floatOf 0x3FA0_0000
 abbrev eight : Float
 eight = floatOf 0x4100_0000
 
+-- 2^-149 and the largest finite number
+abbrev smallest : Float
+smallest = floatOf 0x0000_0001
+
+abbrev largest : Float
+largest = floatOf 0x7F7F_FFFF
+
+-- 1/4 + 2^-24 and 1 + 3·2^-23
+abbrev above-quarter : Float
+above-quarter = floatOf 0x3E80_0002
+
+abbrev above-one : Float
+above-one = floatOf 0x3F80_0003
+
 -- the floats below 1/4, 4 and 8
 abbrev below-quarter : Float
 below-quarter = floatOf 0x3E7F_FFFF
@@ -54,7 +69,10 @@ below-four = floatOf 0x407F_FFFF
 abbrev below-eight : Float
 below-eight = floatOf 0x40FF_FFFF
 
--- -1, -2, -4, -16 and -∞
+-- -0, -1, -2, -4, -16 and -∞
+abbrev minus-zero : Float
+minus-zero = floatOf 0x8000_0000
+
 abbrev minus-one : Float
 minus-one = floatOf 0xBF80_0000
 
@@ -79,10 +97,14 @@ inOrder (x ∷ xs) zero = zero32
 inOrder (x ∷ xs) (suc zero) = x
 inOrder (x ∷ xs) (suc (suc k)) = inOrder xs (suc k)
 
--- quadplane: minimum airspeed 8, ramp 1/8, timeout 4, minimums 2 and 4, back ramp 1, back speed 4, back timeout 8, deceleration 2 with gain 1/16, (1, 1, 1/16,) the handoff, roll limit 3/4
+-- quadplane: minimum airspeed 8, ramp 1/8, timeout 4, minimums 2 and 4, back ramp 1, back speed 4, back timeout 8, deceleration 2 with gain 1/16, the forward thrust, the slew, (1/16,)
+-- the handoff, roll limit 3/4
+abbrev quadplane-by : Float → Float → Float → Settings
+quadplane-by thrust slew handoff =
+    settingsBy (inOrder (eight ∷ eighth ∷ four ∷ two32 ∷ four ∷ one32 ∷ four ∷ eight ∷ two32 ∷ sixteenth ∷ thrust ∷ slew ∷ sixteenth ∷ handoff ∷ three-quarters ∷ []))
+
 abbrev quadplane-with : Float → Settings
-quadplane-with handoff =
-    settingsBy (inOrder (eight ∷ eighth ∷ four ∷ two32 ∷ four ∷ one32 ∷ four ∷ eight ∷ two32 ∷ sixteenth ∷ one32 ∷ one32 ∷ sixteenth ∷ handoff ∷ three-quarters ∷ []))
+quadplane-with handoff = quadplane-by one32 two32 handoff
 
 -- tailsitter: forward rate 1, (1,) tilt to 1, minimum airspeed 8, back rate 2, (1,) timeout 8, minimums 2 and 4, thrusts 5/8 and 1/4, the sink limit with gain 1/8, handoff 1/2,
 -- roll limit 3/4, cosines 1/4 and 1/2
@@ -112,8 +134,8 @@ Flown a s rows = shownFrom (newOf a s) (map (λ (row : Call × Shown). row .0) r
 abbrev forward : List (Call × Shown)
 forward =
     (prime, line C (some 0x3F80_0000) 0 0 0x0000_0000 0x0000_0000)  -- "new and prime give a new handoff, pitch 0, thrust 0"
-    ∷ (fly 1 quarter half [], line F (some 0x3F80_0000) 0 0 0x3F00_0000 0x0000_0000)  -- a new handoff is inactive: the demand, 1/2
-    ∷ (fly 3 quarter half ((12, eight) ∷ []), line F (some 0x3F80_0000) 0 0 0x3F00_0000 0x0000_0000)  -- the ramp begins at clock 1/4
+    ∷ (fly 1 quarter half [], line F (some 0x3F80_0000) 0 0 0x0000_0000 0x0000_0000)  -- 2.2: 0 on the step that enters ToPlane
+    ∷ (fly 3 quarter half ((12, eight) ∷ []), line F (some 0x3F80_0000) 0 0 0x3F00_0000 0x0000_0000)  -- 2.2: min(1, 0 + 2·1/4) = 1/2. The ramp begins at clock 1/4
     ∷ (fly 1 eighth one32 [], line P (some 0x0000_0000) 1 0 0x3F20_0000 0x0000_0000)  -- 3/8 - 1/4 ≥ 1/8: Plane. From the kept 1/2, weight (1/8)/(1/2): 1/2 + (1 - 1/2)·1/4 = 5/8
     ∷ []
 
@@ -127,8 +149,9 @@ blend-and-pitch =
     ∷ (fly 1 quarter one32 [], line P (some 0x0000_0000) 0 0 0x3F40_0000 0x3D40_0000)  -- entering Plane without a flag: from the kept 1/2, 1/2 + (1 - 1/2)·1/2 = 3/4. The pitch stands
     ∷ (fly 0 eighth one32 ((3, eight) ∷ []), line B (some 0x0000_0000) 0 0 0x3F60_0000 0x3C80_0000)  -- weight 3/4: 7/8. "Entering ToCopter sets pitch 0": 0 + 1/16·(2 - 0)·1/8 = 1/64
     ∷ (fly 0 quarter zero32 ((3, two32) ∷ []), line C (some 0x3F80_0000) 1 0 0x3EE0_0000 0x3C80_0000)  -- 2 < 4: Copter with handoff. From the kept 7/8: 7/8 + (0 - 7/8)·1/2 = 7/16
-    ∷ (fly 1 eighth zero32 [], line F (some 0x3F80_0000) 0 0 0x3E60_0000 0x3C80_0000)  -- entering ToPlane: the blend goes on, 7/8 - 7/8·3/4 = 7/32, and the pitch stands
-    ∷ (fly 0 eighth zero32 [], line C (some 0x3F80_0000) 0 0 0x0000_0000 0x3C80_0000)  -- entering Copter without a flag: the blend goes on, weight 1
+    ∷ (fly 1 eighth zero32 [], line F (some 0x3F80_0000) 0 0 0x0000_0000 0x3C80_0000)  -- entering ToPlane: 0. The blend and the pitch stand
+    ∷ (fly 1 quarter zero32 [], line F (some 0x3F80_0000) 0 0 0x3F00_0000 0x3C80_0000)  -- min(1, 0 + 2·1/4) = 1/2; the blend stands
+    ∷ (fly 0 eighth zero32 [], line C (some 0x3F80_0000) 0 0 0x3E60_0000 0x3C80_0000)  -- entering Copter without a flag: the blend goes on where it stood, weight (1/4 + 1/8)/(1/2): 7/8 - 7/8·3/4 = 7/32
     ∷ [])
 
 -- the ends of weight, throttle and pitch
@@ -167,9 +190,9 @@ roll-cut-back =
     ∷ (fly 0 eighth zero32 [], line C (some 0x3F80_0000) 0 0 0x3EE0_0000 0x3D00_0000)  -- and the blend of 1/2 s goes on: 7/8 - 7/8·1/2 = 7/16
     ∷ (prime, line C (some 0x3F80_0000) 0 0 0x0000_0000 0x0000_0000)  -- thrust 0, pitch 0
     ∷ (fly 0 eighth one32 [], line C (some 0x3F80_0000) 0 0 0x3F80_0000 0x0000_0000)  -- and a new handoff, inactive: the demand, 1
-    ∷ (fly 1 quarter one32 [], line F (some 0x3F80_0000) 0 0 0x3F80_0000 0x0000_0000)
-    ∷ (fly 3 quarter one32 ((12, eight) ∷ []), line F (some 0x3F80_0000) 0 0 0x3F80_0000 0x0000_0000)
-    ∷ (fly 1 eighth zero32 [], line P (some 0x0000_0000) 1 0 0x3F7C_0000 0x0000_0000)  -- a fresh handoff of the new handoff_s, 8: 1 + (0 - 1)·(1/8)/8 = 63/64
+    ∷ (fly 1 quarter one32 [], line F (some 0x3F80_0000) 0 0 0x0000_0000 0x0000_0000)  -- entering ToPlane: 0
+    ∷ (fly 3 quarter one32 ((12, eight) ∷ []), line F (some 0x3F80_0000) 0 0 0x3F00_0000 0x0000_0000)  -- min(1, 0 + 2·1/4) = 1/2
+    ∷ (fly 1 eighth zero32 [], line P (some 0x0000_0000) 1 0 0x3EFC_0000 0x0000_0000)  -- a fresh handoff of the new handoff_s, 8: 1/2 + (0 - 1/2)·(1/8)/8 = 63/128
     ∷ [])
 
 -- cut calls in ToCopter and in Copter
@@ -202,16 +225,16 @@ cut-forward =
 abbrev timeouts : List (Call × Shown)
 timeouts =
     (prime, line C (some 0x3F80_0000) 0 0 0x0000_0000 0x0000_0000)
-    ∷ (fly 1 quarter half [], line F (some 0x3F80_0000) 0 0 0x3F00_0000 0x0000_0000)
-    ∷ (fly 3 two32 half ((12, below-eight) ∷ []), line F (some 0x3F80_0000) 0 0 0x3F00_0000 0x0000_0000)  -- below 8: no ramp begins
-    ∷ (fly 3 two32 half ((12, eight) ∷ []), line F (some 0x3F80_0000) 0 0 0x3F00_0000 0x0000_0000)  -- clock 4 > 4 is not; 8 ≥ 8: the ramp begins
-    ∷ (fly 1 sixteenth half [], line F (some 0x3F00_0000) 0 0 0x3F00_0000 0x0000_0000)  -- no timeout once the ramp began. Share 1 - (1/16)/(1/8) = 1/2
-    ∷ (fly 1 sixteenth half [], line P (some 0x0000_0000) 1 0 0x3F00_0000 0x0000_0000)  -- 33/8 - 4 ≥ 1/8: Plane
-    ∷ (fly 0 one32 half ((3, eight) ∷ []), line B (some 0x0000_0000) 0 0 0x3F00_0000 0x3E00_0000)  -- pitch 0 + 1/16·(2 - 0)·1 = 1/8
+    ∷ (fly 1 quarter half [], line F (some 0x3F80_0000) 0 0 0x0000_0000 0x0000_0000)  -- entering ToPlane: 0
+    ∷ (fly 3 two32 half ((12, below-eight) ∷ []), line F (some 0x3F80_0000) 0 0 0x3F80_0000 0x0000_0000)  -- below 8: no ramp begins. Thrust min(1, 0 + 2·2) = 1
+    ∷ (fly 3 two32 half ((12, eight) ∷ []), line F (some 0x3F80_0000) 0 0 0x3F80_0000 0x0000_0000)  -- clock 4 > 4 is not; 8 ≥ 8: the ramp begins
+    ∷ (fly 1 sixteenth half [], line F (some 0x3F00_0000) 0 0 0x3F80_0000 0x0000_0000)  -- no timeout once the ramp began. Share 1 - (1/16)/(1/8) = 1/2
+    ∷ (fly 1 sixteenth half [], line P (some 0x0000_0000) 1 0 0x3F70_0000 0x0000_0000)  -- 33/8 - 4 ≥ 1/8: Plane. From the kept 1, weight (1/16)/(1/2): 1 + (1/2 - 1)·1/8 = 15/16
+    ∷ (fly 0 one32 half ((3, eight) ∷ []), line B (some 0x0000_0000) 0 0 0x3F00_0000 0x3E00_0000)  -- weight 1: the demand, 1/2. Pitch 0 + 1/16·(2 - 0)·1 = 1/8
     ∷ (fly 0 eight half ((3, eight) ∷ (6, minus-two) ∷ []), line B (some 0x3F80_0000) 0 0 0x3F00_0000 0x3E00_0000)  -- clock 8 > 8 is not. -(-2·8)/8 = 2: 1/8 + 1/16·(2 - 2)·8
     ∷ (fly 0 quarter zero32 ((3, eight) ∷ []), line C (some 0x3F80_0000) 1 0 0x3E80_0000 0x3E00_0000)  -- 33/4 > 8: Copter with handoff. From the kept 1/2: 1/2 + (0 - 1/2)·1/2 = 1/4
-    ∷ (fly 1 quarter half [], line F (some 0x3F80_0000) 0 0 0x3F00_0000 0x3E00_0000)
-    ∷ (fly 3 eight half ((12, eight) ∷ []), line C (some 0x3F80_0000) 0 14 0x3F00_0000 0x3E00_0000)  -- "no ramp begun"; 8 > 4 "before the test that begins it": 14
+    ∷ (fly 1 quarter half [], line F (some 0x3F80_0000) 0 0 0x0000_0000 0x3E00_0000)  -- entering ToPlane: 0; the blend stands
+    ∷ (fly 3 eight half ((12, eight) ∷ []), line C (some 0x3F80_0000) 0 14 0x3F00_0000 0x3E00_0000)  -- "no ramp begun"; 8 > 4 "before the test that begins it": 14. The blend goes on, weight 1: the demand, 1/2
     ∷ []
 
 -- floor, forward speed and a ground speed of 0 on the quadplane
@@ -248,6 +271,52 @@ tilting =
     ∷ (fly 1 two32 zero32 (nose-up ∷ []), line F (some 0x3FA0_0000) 0 0 0x3F20_0000 0x0000_0000)  -- min(5/4 + 1·2, max(1, 5/4)) = 5/4
     ∷ []
 
+-- document 02, 2.2: the quadplane's thrust in ToPlane, with a forward thrust of 3/4 and a slew of 1/2 at first
+abbrev running-up : List (Call × Shown)
+running-up =
+    (prime, line C (some 0x3F80_0000) 0 0 0x0000_0000 0x0000_0000)
+    ∷ (fly 0 eighth one32 [], line C (some 0x3F80_0000) 0 0 0x3F80_0000 0x0000_0000)  -- "every other case": the demand, 1
+    ∷ (fly 1 quarter one32 [], line F (some 0x3F80_0000) 0 0 0x0000_0000 0x0000_0000)  -- 0 on the step that enters, whatever was kept or is demanded
+    ∷ (fly 1 quarter one32 [], line F (some 0x3F80_0000) 0 0 0x3E00_0000 0x0000_0000)  -- min(3/4, 0 + 1/2·1/4) = 1/8
+    ∷ (fly 1 zero32 one32 [], refused 1 0)  -- refused: 1/8 is still kept
+    ∷ (fly 1 quarter nan [], line F (some 0x3F80_0000) 0 0 0x3E80_0000 0x0000_0000)  -- min(3/4, 1/8 + 1/2·1/4) = 1/4, with a NaN demand too
+    ∷ (fly 1 one32 zero32 [], line F (some 0x3F80_0000) 0 0 0x3F40_0000 0x0000_0000)  -- min(3/4, 1/4 + 1/2·1): both are 3/4
+    ∷ (fly 1 quarter zero32 [], line F (some 0x3F80_0000) 0 0 0x3F40_0000 0x0000_0000)  -- min(3/4, 7/8) = 3/4
+    ∷ (call.Settings (quadplane-by five-eighths half half), line F (some 0x3F80_0000) 0 0 0x3F40_0000 0x0000_0000)  -- "new settings touch nothing else"
+    ∷ (fly 1 quarter zero32 [], line F (some 0x3F80_0000) 0 0 0x3F20_0000 0x0000_0000)  -- min(5/8, 3/4 + 1/8) = 5/8: down at once
+    ∷ (call.Settings (quadplane-by one32 half half), line F (some 0x3F80_0000) 0 0 0x3F20_0000 0x0000_0000)
+    ∷ (fly 3 quarter zero32 ((12, eight) ∷ []), line F (some 0x3F80_0000) 0 0 0x3F40_0000 0x0000_0000)  -- min(1, 5/8 + 1/8) = 3/4. The ramp begins
+    ∷ (fly 1 eighth one32 [], line P (some 0x0000_0000) 1 0 0x3F50_0000 0x0000_0000)  -- Plane, by the mode after: from the kept 3/4, 3/4 + (1 - 3/4)·1/4 = 13/16
+    ∷ (call.Settings (quadplane-by quarter sixteenth half), line P (some 0x0000_0000) 0 0 0x3F50_0000 0x0000_0000)
+    ∷ (fly 1 half one32 [], line P (some 0x0000_0000) 0 0 0x3F80_0000 0x0000_0000)  -- weight min((1/8 + 1/2)/(1/2), 1) = 1: the demand, 1; in Plane neither field 11, 1/4, nor the slew is a bound
+    ∷ (fly 1 eighth zero32 [], line P (some 0x0000_0000) 0 0 0x0000_0000 0x0000_0000)  -- the blend is over: the demand, 0
+    ∷ (fly 0 quarter one32 ((3, eight) ∷ []), line B (some 0x0000_0000) 0 0 0x3F80_0000 0x3D00_0000)  -- nor in ToCopter: the demand, 1. Pitch 0 + 1/16·(2 - 0)·1/4 = 1/32
+    ∷ []
+
+-- the ends of the run-up, with a forward thrust of -0 and a slew of 2^-149 at first
+abbrev run-up-ends : List (Call × Shown)
+run-up-ends =
+    (prime, line C (some 0x3F80_0000) 0 0 0x0000_0000 0x0000_0000)
+    ∷ (fly 1 quarter one32 [], line F (some 0x3F80_0000) 0 0 0x0000_0000 0x0000_0000)  -- 0 is +0
+    ∷ (fly 1 quarter one32 [], line F (some 0x3F80_0000) 0 0 0x8000_0000 0x0000_0000)  -- 2^-149·1/4 is rounded to 0: min(-0, 0), of two zeros the first named
+    ∷ (call.Settings (quadplane-by one32 largest half), line F (some 0x3F80_0000) 0 0 0x8000_0000 0x0000_0000)
+    ∷ (fly 1 two32 zero32 [], line F (some 0x3F80_0000) 0 0 0x3F80_0000 0x0000_0000)  -- the product is ∞: min(1, ∞) = 1
+    ∷ (call.Settings (quadplane-by half smallest half), line F (some 0x3F80_0000) 0 0 0x3F80_0000 0x0000_0000)
+    ∷ (fly 1 quarter one32 [], line F (some 0x3F80_0000) 0 0 0x3F00_0000 0x0000_0000)  -- min(1/2, 1 + 0) = 1/2
+    ∷ (call.Settings (quadplane-by one32 smallest half), line F (some 0x3F80_0000) 0 0 0x3F00_0000 0x0000_0000)
+    ∷ (fly 1 quarter one32 [], line F (some 0x3F80_0000) 0 0 0x3F00_0000 0x0000_0000)  -- 1/2 + 0: the thrust stands
+    ∷ (call.Settings (quadplane-by one32 above-quarter half), line F (some 0x3F80_0000) 0 0 0x3F00_0000 0x0000_0000)
+    ∷ (fly 1 above-one one32 [], line F (some 0x3F80_0000) 0 0 0x3F40_0002 0x0000_0000)  -- the product, a little above 1/4 + 5·2^-25, is rounded to that; 3/4 + 5·2^-25 lies half-way, and the even one is 3/4 + 2^-23
+    ∷ (fly 1 quarter one32 ((14, minus-one) ∷ []), line C (some 0x3F80_0000) 0 15 0x3F80_0000 0x0000_0000)  -- a roll cut, by the mode after: the demand, 1
+    ∷ (fly 0 eighth minus-zero [], line C (some 0x3F80_0000) 0 0 0x8000_0000 0x0000_0000)  -- the demand, -0
+    ∷ (fly 1 quarter nan [], line F (some 0x3F80_0000) 0 0 0x0000_0000 0x0000_0000)  -- entering: +0, also from a kept -0 and with a NaN demand
+    ∷ (call.Settings (quadplane-by one32 eighth half), line F (some 0x3F80_0000) 0 0 0x0000_0000 0x0000_0000)
+    ∷ (fly 1 four nan [], line F (some 0x3F80_0000) 0 0 0x3F00_0000 0x0000_0000)  -- 0 + 1/8·4 = 1/2; clock 4 > 4 is not
+    ∷ (call.Settings (quadplane-by one32 largest half), line F (some 0x3F80_0000) 0 0 0x3F00_0000 0x0000_0000)
+    ∷ (fly 1 smallest one32 [], line F (some 0x3F80_0000) 0 0 0x3F00_0008 0x0000_0000)  -- the product is 2^-21 - 2^-45; its sum with 1/2 is rounded to 1/2 + 2^-21. The clock stays 4
+    ∷ (call.Cut Unsupported, line C (some 0x3F80_0000) 0 11 0x3F00_0008 0x0000_0000)  -- a cut call leaves the thrust of the run-up
+    ∷ []
+
 -- ---- THE FLIGHTS
 pub record Flights : Type 0 where
   pub blends-and-pitches : Flown airframe.Quadplane (quadplane-with half) blend-and-pitch
@@ -259,6 +328,8 @@ pub record Flights : Type 0 where
   pub times-out : Flown airframe.Quadplane (quadplane-with half) timeouts
   pub slows : Flown airframe.Quadplane (quadplane-with half) slowing
   pub tilts : Flown airframe.Tailsitter (tailsitter-with two32) tilting
+  pub runs-up : Flown airframe.Quadplane (quadplane-by three-quarters half half) running-up
+  pub run-up-ends-met : Flown airframe.Quadplane (quadplane-by minus-zero smallest half) run-up-ends
 
 pub flights : Flights
 unfolding ofBits toBits add sub mul div lt le eq neg isNan rootOf settingsBy vehicleBy stepInputBy
@@ -272,4 +343,6 @@ flights = record {
   times-out = refl;
   slows = refl;
   tilts = refl;
+  runs-up = refl;
+  run-up-ends-met = refl;
 }

@@ -36,7 +36,7 @@ pub fn count_step(counts: &mut Counts, seen: &Seen<Step>) {
     if transitioning(track.mode) && !seen.cut_by_roll() {
         counts.reach_all(&place(track.airframe, track.mode), &clocks(seen));
     }
-    if seen.blends() {
+    if seen.before.applies_handoff(seen.after.mode) {
         counts.reach_all(word, &handoffs(seen));
         let demand = demand_word(seen.call.demand());
         counts.reach(&demand_item(track, demand, seen.handoff_active()));
@@ -142,11 +142,6 @@ fn back_ramp(seen: &Seen<Step>) -> Vec<Item> {
 }
 
 impl Seen<'_, Step> {
-    /// Whether the thrust goes through the handoff.
-    fn blends(&self) -> bool {
-        !(self.before.is_tailsitter() && transitioning(self.after.mode))
-    }
-
     fn starts_handoff(&self) -> bool {
         let enters_plane = self.before.mode != self.after.mode && self.after.mode == FlightMode::Plane;
         self.line.moved.handoff || enters_plane

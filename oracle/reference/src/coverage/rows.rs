@@ -564,8 +564,12 @@ fn settings_to_plane(seen: &Seen<Settings>) -> Vec<Item> {
             "settings accepted, share clamped to 0",
             begun && seen.line.moved.output == Some(0.0),
         ),
+        (
+            "settings accepted, new field 11 below the thrust",
+            seen.line.thrust > seen.after.field(11),
+        ),
     ];
-    let count = if seen.before.is_tailsitter() { 1 } else { 3 };
+    let count = if seen.before.is_tailsitter() { 1 } else { all.len() };
     all[..count].to_vec()
 }
 
@@ -586,7 +590,10 @@ fn cut(seen: &Seen<u8>) -> Vec<Item> {
                 before.abandonment != 0 && before.abandonment != *seen.call,
             ),
         ],
-        FlightMode::ToPlane => vec![("cut abandons with the reason", seen.line.moved.report == *seen.call)],
+        FlightMode::ToPlane => vec![
+            ("cut abandons with the reason", seen.line.moved.report == *seen.call),
+            ("cut leaves a thrust above 0", seen.line.thrust > 0.0),
+        ],
         FlightMode::Plane => vec![("cut with a handoff running does nothing", before.handoff_active())],
         _ => vec![
             ("cut gives Copter with handoff", seen.line.moved.handoff),
@@ -622,7 +629,10 @@ fn prime(seen: &Seen<f32>) -> Vec<Item> {
                 items.push(("prime with pitch above 0", before.pitch_rad > 0.0));
             }
         }
-        FlightMode::ToPlane if !before.is_tailsitter() => items.push(("prime with the ramp begun", before.ramp_start_s.is_some())),
+        FlightMode::ToPlane if !before.is_tailsitter() => {
+            items.push(("prime with the ramp begun", before.ramp_start_s.is_some()));
+            items.push(("prime with thrust above 0", before.thrust > 0.0));
+        }
         _ => {}
     }
     items

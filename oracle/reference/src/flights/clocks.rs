@@ -1,11 +1,11 @@
-//! Steps that bring a clock exactly to a bound, or to a neighbour of it.
+//! Steps that bring a clock, or the quadplane's thrust in ToPlane, exactly to a bound or to a neighbour of it.
 
 use super::flight::{Flight, around, dt_to};
 use crate::machine::Step;
 use crate::random::SMALLEST;
 use stable_flight::FlightMode;
 
-/// What a clock is brought to.
+/// What a clock or that thrust is brought to.
 #[derive(Debug, Clone, Copy)]
 enum Bound {
     Timeout,
@@ -14,6 +14,7 @@ enum Bound {
     LiftRampSum,
     BackRamp,
     Handoff,
+    RunUp,
 }
 
 impl Flight {
@@ -29,6 +30,7 @@ impl Flight {
                 Bound::LiftRamp,
                 Bound::LiftRampSum,
                 Bound::BackRamp,
+                Bound::RunUp,
             ]
         };
         match self.random.pick(bounds) {
@@ -38,6 +40,7 @@ impl Flight {
             Bound::LiftRampSum => self.approach_start_plus_ramp(),
             Bound::BackRamp => self.approach_back_ramp(),
             Bound::Handoff => self.approach_any_handoff(),
+            Bound::RunUp => self.approach_run_up(),
         }
     }
 
@@ -152,6 +155,18 @@ impl Flight {
         for target in self.targets(self.track.field(6)) {
             let step = self.hold();
             self.step_to(step, self.track.clock_s, target);
+        }
+    }
+
+    fn approach_run_up(&mut self) {
+        if !self.enter_anew(FlightMode::ToPlane) {
+            return;
+        }
+        let most = self.track.field(11);
+        let half = self.random.once_in(2).then_some(most * 0.5);
+        for target in half.into_iter().chain(self.targets(most)) {
+            let step = self.run_up_to(target);
+            self.step(step);
         }
     }
 

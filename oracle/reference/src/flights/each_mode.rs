@@ -2,6 +2,7 @@
 
 use super::flight::Flight;
 use super::rows::NOT_FINITE;
+use super::run_up;
 use crate::joined::Call;
 use crate::machine::{MODES, Step};
 use crate::random::SMALLEST;
@@ -10,12 +11,14 @@ use stable_flight::FlightMode;
 use std::f32::consts::PI;
 
 const IN_EACH_MODE: u64 = 30;
+/// The sequences of both airframes; the quadplane has those of the run-up too.
 const SEQUENCES: u64 = 28;
 
 /// The next `count` of all that is done in turn.
 pub fn some(flight: &mut Flight, turn: u64, count: u64) {
+    let own = if flight.track.is_tailsitter() { 0 } else { run_up::SEQUENCES };
     for i in turn * count..(turn + 1) * count {
-        let i = i % (4 * IN_EACH_MODE + SEQUENCES);
+        let i = i % (4 * IN_EACH_MODE + SEQUENCES + own);
         if i < 4 * IN_EACH_MODE {
             flight.reach(MODES[(i % 4) as usize]);
             flight.in_mode(i / 4);
@@ -85,7 +88,7 @@ impl Flight {
     }
 
     /// A step that would go on, with one number changed.
-    fn hold_with(&mut self, number: usize, x: f32) {
+    pub fn hold_with(&mut self, number: usize, x: f32) {
         let mut step = self.hold();
         step.numbers[number - 1] = x;
         self.step(step);
@@ -366,7 +369,8 @@ impl Flight {
                     self.approach_start_plus_ramp();
                 }
             }
-            _ => self.speeds_at_bound(),
+            27 => self.speeds_at_bound(),
+            _ => self.run_up_sequence(which - SEQUENCES),
         }
     }
 

@@ -44,8 +44,13 @@ pub fn around(x: f32) -> [f32; 7] {
 
 /// A dt that brings a sum of steps from one number exactly to another.
 pub fn dt_to(from: f32, to: f32) -> Option<f32> {
-    let good = |dt: &f32| *dt > 0.0 && dt.is_finite() && from + *dt == to;
-    around(to - from).into_iter().find(good)
+    dt_at(1.0, from, to)
+}
+
+/// The same of a sum that grows by so much in each second.
+pub fn dt_at(rate: f32, from: f32, to: f32) -> Option<f32> {
+    let good = |dt: &f32| *dt > 0.0 && dt.is_finite() && from + rate * *dt == to;
+    around((to - from) / rate).into_iter().find(good)
 }
 
 impl Flight {

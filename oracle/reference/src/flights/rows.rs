@@ -188,7 +188,7 @@ impl Flight {
     fn quadplane_to_plane_row(&mut self) {
         let least = self.track.min_airspeed_mps();
         let waits = self.track.ramp_start_s.is_none();
-        let step = match self.random.below(11) {
+        let step = match self.random.below(12) {
             0 => self.request_back(),
             1 | 2 | 8 => self.ramp_step(),
             3 if waits => {
@@ -208,6 +208,10 @@ impl Flight {
                 plane_requested: false,
                 ..self.ramp_step()
             },
+            9 => {
+                let thrust = self.random.near(self.track.field(11));
+                self.run_up_to(thrust)
+            }
             _ => self.hold(),
         };
         self.step(step);

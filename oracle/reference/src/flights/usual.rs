@@ -90,6 +90,8 @@ fn varied(random: &mut Random, airframe: Airframe, s: &mut Settings) {
             s[2] = random.pick(&[s[2], 1.5, 4.0]);
             s[7] = random.pick(&[s[7], 2.5, 5.0]);
             s[9] = random.pick(&[s[9], 0.0, 0.05]);
+            s[10] = random.pick(&[s[10], 1.0, 0.7, 0.25, 0.0]);
+            s[11] = random.pick(&[s[11], 0.05, 0.5, 2.0]);
         }
     }
 }

@@ -290,7 +290,7 @@ running-up =
     ∷ (call.Settings (quadplane-by quarter sixteenth half), line P (some 0x0000_0000) 0 0 0x3F50_0000 0x0000_0000)
     ∷ (fly 1 half one32 [], line P (some 0x0000_0000) 0 0 0x3F80_0000 0x0000_0000)  -- weight min((1/8 + 1/2)/(1/2), 1) = 1: the demand, 1; in Plane neither field 11, 1/4, nor the slew is a bound
     ∷ (fly 1 eighth zero32 [], line P (some 0x0000_0000) 0 0 0x0000_0000 0x0000_0000)  -- the blend is over: the demand, 0
-    ∷ (fly 0 quarter one32 ((3, eight) ∷ []), line B (some 0x0000_0000) 0 0 0x3F80_0000 0x3D00_0000)  -- nor in ToCopter: the demand, 1. Pitch 0 + 1/16·(2 - 0)·1/4 = 1/32
+    ∷ (fly 0 quarter one32 ((3, eight) ∷ []), line B (some 0x0000_0000) 0 0 0x3F80_0000 0x3D00_0000)  -- nor is either a bound in ToCopter: the demand, 1. Pitch 0 + 1/16·(2 - 0)·1/4 = 1/32
     ∷ []
 
 -- the ends of the run-up, with a forward thrust of -0 and a slew of 2^-149 at first
@@ -302,13 +302,13 @@ run-up-ends =
     ∷ (call.Settings (quadplane-by one32 largest half), line F (some 0x3F80_0000) 0 0 0x8000_0000 0x0000_0000)
     ∷ (fly 1 two32 zero32 [], line F (some 0x3F80_0000) 0 0 0x3F80_0000 0x0000_0000)  -- the product is ∞: min(1, ∞) = 1
     ∷ (call.Settings (quadplane-by half smallest half), line F (some 0x3F80_0000) 0 0 0x3F80_0000 0x0000_0000)
-    ∷ (fly 1 quarter one32 [], line F (some 0x3F80_0000) 0 0 0x3F00_0000 0x0000_0000)  -- min(1/2, 1 + 0) = 1/2
+    ∷ (fly 1 quarter one32 [], line F (some 0x3F80_0000) 0 0 0x3F00_0000 0x0000_0000)  -- the product is rounded to 0: min(1/2, 1 + 0) = 1/2
     ∷ (call.Settings (quadplane-by one32 smallest half), line F (some 0x3F80_0000) 0 0 0x3F00_0000 0x0000_0000)
-    ∷ (fly 1 quarter one32 [], line F (some 0x3F80_0000) 0 0 0x3F00_0000 0x0000_0000)  -- 1/2 + 0: the thrust stands
+    ∷ (fly 1 quarter one32 [], line F (some 0x3F80_0000) 0 0 0x3F00_0000 0x0000_0000)  -- the product is rounded to 0: 1/2 + 0, the thrust stands
     ∷ (call.Settings (quadplane-by one32 above-quarter half), line F (some 0x3F80_0000) 0 0 0x3F00_0000 0x0000_0000)
-    ∷ (fly 1 above-one one32 [], line F (some 0x3F80_0000) 0 0 0x3F40_0002 0x0000_0000)  -- the product, a little above 1/4 + 5·2^-25, is rounded to that; 3/4 + 5·2^-25 lies half-way, and the even one is 3/4 + 2^-23
+    ∷ (fly 1 above-one one32 [], line F (some 0x3F80_0000) 0 0 0x3F40_0002 0x0000_0000)  -- the product, a little above 1/4 + 5·2^-25, is rounded to that; 3/4 + 5·2^-25 lies half-way, and the even one is 3/4 + 2^-23. The clock is rounded too, below 4
     ∷ (fly 1 quarter one32 ((14, minus-one) ∷ []), line C (some 0x3F80_0000) 0 15 0x3F80_0000 0x0000_0000)  -- a roll cut, by the mode after: the demand, 1
-    ∷ (fly 0 eighth minus-zero [], line C (some 0x3F80_0000) 0 0 0x8000_0000 0x0000_0000)  -- the demand, -0
+    ∷ (fly 0 eighth minus-zero [], line C (some 0x3F80_0000) 0 0 0x8000_0000 0x0000_0000)  -- the demand, -0, which a clamp lets pass
     ∷ (fly 1 quarter nan [], line F (some 0x3F80_0000) 0 0 0x0000_0000 0x0000_0000)  -- entering: +0, also from a kept -0 and with a NaN demand
     ∷ (call.Settings (quadplane-by one32 eighth half), line F (some 0x3F80_0000) 0 0 0x0000_0000 0x0000_0000)
     ∷ (fly 1 four nan [], line F (some 0x3F80_0000) 0 0 0x3F00_0000 0x0000_0000)  -- 0 + 1/8·4 = 1/2; clock 4 > 4 is not

@@ -5,7 +5,7 @@ import re
 
 import flight_card as fc
 import tool
-from pages import CARD_PAGE, PARTS, ROOT, SETTINGS_CODE, SETTINGS_PAGE, TABLES, broken_tables, each_setting, mark_words, marked, read_by, setting_name, settings_page, source, span, with_unit
+from pages import CARD_PAGE, PARTS, RANGES_CODE, RANGES_DEFINITION, ROOT, SETTINGS_CODE, SETTINGS_PAGE, TABLES, broken_tables, each_setting, mark_words, marked, read_by, row_of, setting_name, settings_page, source, span, with_unit
 from tool import Bad
 
 WRITE = "python3 -B tools/pages.py write"
@@ -20,6 +20,10 @@ KIND_CODE = {fc.PRIME: "Call::Prime", fc.STEP: "Call::Step", fc.CUT: "cut_for", 
 NOT_OF_A_CARD = {"HandoffDuration", "Tangent"}
 # The units that end a name.
 SUFFIXES = {"_mps2": "m/s²", "_radps": "rad/s", "_per_s": "1/s", "_mps": "m/s", "_rad": "rad", "_m": "m", "_s": "s"}
+# A row of the table of ranges in the code, and in the definitions, where a word says whether an end counts.
+CODE_ROW = re.compile(r"^    Range\((\w+), (\w+), (\w+), (\w+)\), // (\d+) (\w+) (.*)$", re.M)
+DEFINED_ROW = re.compile(r"^    (?:∷ )?(\w+) (\w+) (\w+) (\w+)  -- (\d+) (\w+)$", re.M)
+END_COUNTS = {"true": True, "false": False, "from": True, "above": False, "to": True, "below": False}
 LETTERED = re.compile(r"FlightMode::(\w+) => b'(\w)'")
 
 
@@ -70,6 +74,21 @@ def check_default(found, name, setting, code, constant):
     except ValueError:
         same = False
     found.hold(f"{name}, default", same, f"{TABLES} has {setting.default}, {constant} of {SETTINGS_CODE} has {code}")
+
+
+def check_ranges(found):
+    """The table of ranges: numbers, names and rows, and in the code the range written beside each row."""
+    ours = [(str(place), setting.name, *map(str, row_of(setting)), setting.range) for _, place, setting in each_setting()]
+    code = [(place, name, *row(low, low_counts, high, high_counts), written) for low, low_counts, high, high_counts, place, name, written in CODE_ROW.findall(source(RANGES_CODE))]
+    found.hold(f"{TABLES}, rows of the code", ours == code, first_difference(ours, code, f"RANGES of {RANGES_CODE}"))
+    ours = [words[:-1] for words in ours]
+    defined = [(place, name, *row(low, low_counts, high, high_counts)) for low_counts, low, high_counts, high, place, name in DEFINED_ROW.findall(source(RANGES_DEFINITION))]
+    found.hold(f"{TABLES}, rows of the definitions", ours == defined, first_difference(ours, defined, f"table of {RANGES_DEFINITION}"))
+
+
+def row(low, low_counts, high, high_counts):
+    """A row of a table in words: bits as 8 digits, and whether each end counts."""
+    return tuple(map(str, (f"{int(low, 0):08X}", END_COUNTS[low_counts], f"{int(high, 0):08X}", END_COUNTS[high_counts])))
 
 
 def first_difference(ours, code, where):
@@ -205,5 +224,5 @@ def all_pages(found):
     broken = broken_tables()
     found.hold(TABLES, not broken, broken)
     if not broken:
-        for check in (check_settings_page, check_card_page, check_settings, check_units, check_readers, check_parts, check_words, check_names):
+        for check in (check_settings_page, check_card_page, check_settings, check_ranges, check_units, check_readers, check_parts, check_words, check_names):
             held(found, check, found)

@@ -104,9 +104,14 @@ def bits_of(value):
 ENDS = {"0": 0.0, "1": 1.0, "π/2": value_of(HALF_PI), "π": value_of(PI), "∞": math.inf}
 
 
+def end_words(written):
+    """Of a range such as (0, π/2]: its low and its high end as written."""
+    return written[1:-1].split(", ")
+
+
 def ends_of(written):
-    """Of a range such as (0, π/2]: low, whether it counts, high, whether it counts."""
-    low, high = written[1:-1].split(", ")
+    """Of a range as written: low, whether it counts, high, whether it counts."""
+    low, high = end_words(written)
     return ENDS[low], written[0] == "[", ENDS[high], written[-1] == "]"
 
 
@@ -118,7 +123,7 @@ def within(value, written):
 
 def range_words(written):
     """A range in words."""
-    low, high = written[1:-1].split(", ")
+    low, high = end_words(written)
     if written[0] == "[" and written[-1] == "]":
         return f"{low} to {high}"
     above = f"{low} or above" if written[0] == "[" else f"above {low}"

@@ -15,7 +15,9 @@ from tool import Bad
 ROOT = os.path.dirname(os.path.dirname(os.path.realpath(__file__)))
 SETTINGS_PAGE, CARD_PAGE = "docs/SETTINGS.md", "docs/CARD.md"
 TABLES = "tools/flight_card.py"
-SETTINGS_CODE = "crates/machines/src/settings.rt"
+SETTINGS_CODE, RANGES_CODE = "crates/machines/src/settings.rt", "crates/machines/src/ranges.rt"
+RANGES_DEFINITION, SETTINGS_DEFINITION = "crates/machines/specs/RangeTable.antt", "crates/machines/specs/Settings.antt"
+COUNTS = {True: "yes", False: "no"}
 USEFUL = "0 -0 1 -1 0.5 0.25 0.1 0.005 2 5 9 10 15 0.70710677 0.7853982 1.5707964 3.1415927 1e-45 3.4028235e38 inf -inf nan".split()
 USES = {"0.70710677": "the cosine of π/4", "0.7853982": "π/4, 45°", "1.5707964": "π/2, 90°", "3.1415927": "π, 180°", "1e-45": "the smallest above 0", "3.4028235e38": "the largest"}
 EXAMPLE, CHAIN_EXAMPLE, WORKED_STEP = "examples/section7", "examples/chain", 3
@@ -45,7 +47,7 @@ How a range is written:
 
 What is checked:
 
-- Each setting against its range, from 1 on, by `validate` in [{code}](../{code}). The first that is out of its range is named by its position; those after it are not.
+- Each setting against its row of [the table of ranges](#the-ranges-in-one-table), from 1 on, by `validate` in [{code}](../{code}). The first that is out of its range is named by its position; those after it are not.
 - A bad header refuses the card: the transcript is `card 3 K`, and nothing is flown. A bad settings call is refused alone: its line is `INDEX refused 3 K`, the old settings stay, and the flight goes on.
 - Nothing is checked across settings. Above all: settings {forward_cosine} and {back_cosine} of the tailsitter are the cosines of its settings {forward_angle} and {back_angle}. The caller works them out and supplies them, and nobody checks that they belong together. The machine goes by the cosines.
 
@@ -54,6 +56,13 @@ The defaults are those of the Rust (stable-flight's transition core), as binary3
 Where a setting is of a mode, tests go by the mode before a step, and thrust and pitch by the mode after it ([CARD.md](CARD.md#what-a-call-does)).
 
 "Read by" names the functions that use a setting after it was checked. Where it says "nothing", the setting is checked and then not used by the machine.
+"""
+
+RANGES_INTRODUCTION = """## The ranges in one table
+
+The ranges of both airframes as [{code}](../{code}) has them: a row for each setting, with the low end and whether that end counts, then the high end. An infinite end does not count, so that infinity itself is out.
+
+A changed range is changed in four places: the row there and in [{definition}](../{definition}), the setting's line in [{section}](../{section}), and its range in tools/flight_card.py, of which `python3 -B tools/pages.py write` makes this page. The gate refuses a row of the code that is not the definition's, and one that does not let through exactly what the setting's line says; `./check-tools` refuses a page with other rows than the code's. The recorded answers are the Rust's, which keeps its own ranges.
 """
 
 
@@ -176,6 +185,21 @@ def settings_table(settings):
     return table(["Setting", "Byte", "Name", "Unit", "Range", "Default", "Bits", "What it does", "Read by"], rows)
 
 
+def row_of(setting):
+    """A setting's row of the code's table: the low end's bits and whether it counts, then the high end's."""
+    low, low_counts, high, high_counts = fc.ends_of(setting.range)
+    return f"{fc.bits_of(low):08X}", low_counts, f"{fc.bits_of(high):08X}", high_counts
+
+
+def range_table():
+    rows = []
+    for kind, place, setting in each_setting():
+        low, low_counts, high, high_counts = row_of(setting)
+        low_words, high_words = fc.end_words(setting.range)
+        rows.append([fc.AIRFRAMES[kind], place, f"`{setting.name}`", low_words, low, COUNTS[low_counts], high_words, high, COUNTS[high_counts]])
+    return table(["Airframe", "Setting", "Name", "Low", "Low's bits", "Low counts", "High", "High's bits", "High counts"], rows)
+
+
 def settings_page():
     """All of docs/SETTINGS.md."""
     names = [setting.name for setting in fc.TAILSITTER_SETTINGS]
@@ -193,7 +217,7 @@ def settings_page():
     )
     for kind, settings in fc.SETTINGS_OF.items():
         page += f"\n## {fc.AIRFRAMES[kind].capitalize()}\n\n{settings_table(settings)}"
-    return page
+    return f"{page}\n{RANGES_INTRODUCTION.format(code=RANGES_CODE, definition=RANGES_DEFINITION, section=SETTINGS_DEFINITION)}\n{range_table()}"
 
 
 # The marked parts of docs/CARD.md.

@@ -8,8 +8,6 @@ use Rattle.machines.specs.declared.InputRefusal.{InputRefusal}
 use Rattle.machines.specs.declared.InputRefusal.the-variants.{Setting}
 use Rattle.machines.specs.declared.settings.Validity.{Validity}
 use Rattle.machines.specs.declared.settings.Validity.the-variants.{Valid, Bad}
-use Rattle.machines.specs.declared.settings.FirstBad.{FirstBad}
-use Rattle.machines.specs.declared.settings.FirstBad.the-variants as first
 use Rattle.machines.specs.declared.settings.TransitionConfig.{TransitionConfig}
 use Rattle.machines.specs.declared.settings.LiftTransitionConfig.{LiftTransitionConfig}
 use Rattle.machines.specs.declared.settings.ForwardThrustConfig.{ForwardThrustConfig}
@@ -83,16 +81,6 @@ forwardThrustTests c = field 1 is limit (c .gain) ∷ field 2 is quarterTurnFrom
 
 abbrev pub forwardThrustValidity : ForwardThrustConfig → Validity
 forwardThrustValidity c = verdict (forwardThrustTests c)
-
--- ---- as the code takes the tests, one after the other: the first bad field so far, with field n after it; and the verdict by it. It is the verdict above (law `in-turn`,
--- proofs/Laws/Verdicts.antt)
-abbrev pub firstBad : FirstBad → ℕ → Bool → FirstBad
-firstBad first.None n good = if good then first.None else first.Field n
-firstBad (first.Field k) n good = first.Field k
-
-abbrev pub verdictOn : FirstBad → Validity
-verdictOn first.None = Valid
-verdictOn (first.Field k) = Bad (Setting k)
 
 -- ---- the Rust's default settings, by their bits; 16 and 17 are the cosine of the default done angles
 abbrev pub transitionDefault : TransitionConfig

@@ -10,6 +10,7 @@ pub mod handoff;
 pub mod hold;
 pub mod lift;
 pub mod quadplane;
+mod ranges;
 pub mod rows;
 pub mod setpoint;
 pub mod settings;

@@ -1,15 +1,12 @@
 // The settings (document 01, section 2): `TransitionConfig` of the Rust's vtol.rs with the two done cosines, `LiftTransitionConfig` of lift.rs, `ForwardThrustConfig` of forward.rs.
 use crate::InputRefusal;
-use numbers::ranges::is_half_turn;
+use crate::ranges::QUADPLANE;
+use crate::ranges::TAILSITTER;
+use crate::ranges::validate_ranges;
 use numbers::ranges::is_limit;
-use numbers::ranges::is_positive;
-use numbers::ranges::is_quarter_turn;
-use numbers::ranges::is_quarter_turn_closed;
 use numbers::ranges::is_quarter_turn_from_zero;
-use numbers::ranges::is_unit;
-use numbers::ranges::is_unit_above_zero;
 ghost use mathlib.Core.Path.{_≡_};
-ghost use Rattle.machines.specs.Settings.{firstBad, verdictOn, transitionValidity, liftValidity, forwardThrustValidity, transitionDefault, liftDefault};
+ghost use Rattle.machines.specs.Settings.{transitionValidity, liftValidity, forwardThrustValidity, transitionDefault, liftDefault};
 
 // The tailsitter's settings, 1 to 17. Tilts are the nose's angle from vertical. 16 and 17 are the cosines of 2 and 6, and are what the machine compares with:
 // 2 and 6 themselves are checked and not read. 10 to 15 are read by the joined machine. A floor (9) or a sink limit (12) of 0 is off.
@@ -65,40 +62,6 @@ pub enum Validity {
     Bad(InputRefusal),
 }
 
-// The first bad field of those that were looked at, if any.
-pub(crate) enum FirstBad {
-    None,
-    Field(u8),
-}
-
-impl FirstBad {
-    // What is found so far, and field n after it.
-    fn then(self, n: u8, good: bool) -> FirstBad
-        ensures { λ r. ⌜ r ≡ firstBad self n good ⌝ }
-    {
-        match self {
-            FirstBad::None => {
-                if good {
-                    FirstBad::None
-                } else {
-                    FirstBad::Field(n)
-                }
-            }
-            FirstBad::Field(first) => FirstBad::Field(first),
-        }
-    }
-
-    // What a check finds by it.
-    fn verdict(self) -> Validity
-        ensures { λ r. ⌜ r ≡ verdictOn self ⌝ }
-    {
-        match self {
-            FirstBad::None => Validity::Valid,
-            FirstBad::Field(n) => Validity::Bad(InputRefusal::Setting(n)),
-        }
-    }
-}
-
 // The Rust's default settings, with the cosines of its default done angles.
 pub const TRANSITION_DEFAULTS: TransitionConfig = TransitionConfig {
     forward_rate_radps: 0.87266463,
@@ -125,25 +88,26 @@ impl TransitionConfig {
     pub fn validate(self) -> Validity
         ensures { λ r. ⌜ r ≡ transitionValidity self ⌝ }
     {
-        let c = FirstBad::None;
-        let c = c.then(1, is_positive(self.forward_rate_radps));
-        let c = c.then(2, is_quarter_turn(self.forward_done_rad));
-        let c = c.then(3, is_quarter_turn_closed(self.forward_max_tilt_rad));
-        let c = c.then(4, is_limit(self.min_airspeed_mps));
-        let c = c.then(5, is_positive(self.back_rate_radps));
-        let c = c.then(6, is_quarter_turn(self.back_done_rad));
-        let c = c.then(7, is_positive(self.timeout_s));
-        let c = c.then(8, is_limit(self.min_height_m));
-        let c = c.then(9, is_limit(self.plane_min_height_m));
-        let c = c.then(10, is_unit(self.forward_thrust));
-        let c = c.then(11, is_unit(self.back_thrust));
-        let c = c.then(12, is_limit(self.back_sink_limit_mps));
-        let c = c.then(13, is_limit(self.back_sink_gain));
-        let c = c.then(14, is_limit(self.handoff_s));
-        let c = c.then(15, is_half_turn(self.roll_limit_rad));
-        let c = c.then(16, is_unit_above_zero(self.forward_done_cosine));
-        let c = c.then(17, is_unit_above_zero(self.back_done_cosine));
-        c.verdict()
+        let settings = [
+            self.forward_rate_radps,
+            self.forward_done_rad,
+            self.forward_max_tilt_rad,
+            self.min_airspeed_mps,
+            self.back_rate_radps,
+            self.back_done_rad,
+            self.timeout_s,
+            self.min_height_m,
+            self.plane_min_height_m,
+            self.forward_thrust,
+            self.back_thrust,
+            self.back_sink_limit_mps,
+            self.back_sink_gain,
+            self.handoff_s,
+            self.roll_limit_rad,
+            self.forward_done_cosine,
+            self.back_done_cosine,
+        ];
+        validate_ranges(TAILSITTER, &settings)
     }
 
     // The default settings: which numbers they are is promised here.
@@ -178,23 +142,24 @@ impl LiftTransitionConfig {
     pub fn validate(self) -> Validity
         ensures { λ r. ⌜ r ≡ liftValidity self ⌝ }
     {
-        let c = FirstBad::None;
-        let c = c.then(1, is_limit(self.min_airspeed_mps));
-        let c = c.then(2, is_positive(self.lift_ramp_s));
-        let c = c.then(3, is_positive(self.timeout_s));
-        let c = c.then(4, is_limit(self.min_height_m));
-        let c = c.then(5, is_limit(self.plane_min_height_m));
-        let c = c.then(6, is_positive(self.back_ramp_s));
-        let c = c.then(7, is_limit(self.back_speed_mps));
-        let c = c.then(8, is_positive(self.back_timeout_s));
-        let c = c.then(9, is_limit(self.back_decel_mps2));
-        let c = c.then(10, is_limit(self.back_decel_i));
-        let c = c.then(11, is_unit(self.forward_thrust));
-        let c = c.then(12, is_positive(self.pusher_slew_per_s));
-        let c = c.then(13, is_quarter_turn(self.forward_pitch_max_rad));
-        let c = c.then(14, is_limit(self.handoff_s));
-        let c = c.then(15, is_half_turn(self.roll_limit_rad));
-        c.verdict()
+        let settings = [
+            self.min_airspeed_mps,
+            self.lift_ramp_s,
+            self.timeout_s,
+            self.min_height_m,
+            self.plane_min_height_m,
+            self.back_ramp_s,
+            self.back_speed_mps,
+            self.back_timeout_s,
+            self.back_decel_mps2,
+            self.back_decel_i,
+            self.forward_thrust,
+            self.pusher_slew_per_s,
+            self.forward_pitch_max_rad,
+            self.handoff_s,
+            self.roll_limit_rad,
+        ];
+        validate_ranges(QUADPLANE, &settings)
     }
 
     // The default settings: which numbers they are is promised here.
@@ -210,9 +175,12 @@ impl ForwardThrustConfig {
     pub fn validate(self) -> Validity
         ensures { λ r. ⌜ r ≡ forwardThrustValidity self ⌝ }
     {
-        let c = FirstBad::None;
-        let c = c.then(1, is_limit(self.gain));
-        let c = c.then(2, is_quarter_turn_from_zero(self.pitch_limit_rad));
-        c.verdict()
+        if !is_limit(self.gain) {
+            return Validity::Bad(InputRefusal::Setting(1));
+        }
+        if !is_quarter_turn_from_zero(self.pitch_limit_rad) {
+            return Validity::Bad(InputRefusal::Setting(2));
+        }
+        Validity::Valid
     }
 }

@@ -1,4 +1,6 @@
 // The steps of a list through the joined machine, summed: for bench/ alone.
+#![tactic(auto)]
+
 ghost use Rattle.std.specs.Prelude.{◌≡◌, ◌+◌, ◌*◌, ◌%◌, ◌^◌, ◌≤◌, length};
 ghost use Rattle.joined.specs.Shown.{tilt_bits, output_bits, flag_of, shown_of};
 ghost use Rattle.joined.specs.Calls.{settings_by, step_input_by};

@@ -7,7 +7,7 @@ use crate::record::{Header, header_of, is_known, next_at};
 use crate::refusal::CardRefusal;
 
 // What a check finds: so many records to walk after the header, or a refusal.
-#[derive(Drop)]
+#[derive(Clone, Copy)]
 pub enum Checked {
     Walk(usize),
     Refused(CardRefusal),

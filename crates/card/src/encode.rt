@@ -10,7 +10,7 @@ use machines::{Airspeed, FlightRegime, ModeRefusal};
 use numbers::bits::to_bits;
 
 // What a record holds besides its link: its kind, its option, and the bits of its numbers 1 to 19.
-#[derive(Drop)]
+#[derive(Clone, Copy)]
 pub(crate) struct Encoded {
     pub(crate) kind: u8,
     pub(crate) option: u8,

@@ -14,14 +14,14 @@ use machines::{ModeRefusal, VehicleState};
 use numbers::vector::{Quaternion, Vec2, Vec3};
 
 // What a record after the header says: a call, or a kind or option that section 7 does not name.
-#[derive(Drop)]
+#[derive(Clone, Copy)]
 pub enum Record {
     Known(Call),
     Unknown,
 }
 
 // What the header says: a new joined machine, or why there is none.
-#[derive(Drop)]
+#[derive(Clone, Copy)]
 pub(crate) enum Header {
     Joined(Joined),
     Refused(CardRefusal),

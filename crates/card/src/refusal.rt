@@ -5,7 +5,7 @@ ghost use Rattle.card.specs.CardRefusals.{card_refusal_of, card_field_of};
 use machines::InputRefusal;
 
 // The refusal of the header's settings, a 3 with its field, and 6 to 10 of section 9.
-#[derive(Drop)]
+#[derive(Clone, Copy)]
 pub enum CardRefusal {
     Header(InputRefusal),
     Length,

@@ -12,7 +12,7 @@ use crate::text::{card_line, end_line, record_line};
 use joined::joined::Joined;
 
 // The state after a record, and the index after its line.
-#[derive(Drop)]
+#[derive(Clone, Copy)]
 struct RecordUpdate {
     joined: Joined,
     at: usize,

@@ -12,7 +12,7 @@ use joined::settings::Settings;
 use machines::InputRefusal;
 
 // Why a list is not written: more than 799 calls, a buffer too short, or the refusal of the header's settings.
-#[derive(Drop)]
+#[derive(Clone, Copy)]
 pub enum WriteRefusal {
     Calls,
     Room,
@@ -44,7 +44,7 @@ impl WriteRefusal {
 }
 
 // What a writing answers: how many bytes the card has, or a refusal.
-#[derive(Drop)]
+#[derive(Clone, Copy)]
 pub enum Wrote {
     Card(usize),
     Refused(WriteRefusal),

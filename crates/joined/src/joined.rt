@@ -14,7 +14,7 @@ use machines::{InputRefusal, ModeRefusal};
 use numbers::ranges::is_positive;
 
 // The state. What it holds is nobody else's to write.
-#[derive(Drop)]
+#[derive(Clone, Copy)]
 pub struct Joined {
     machine: Machine,
     handoff: ThrustHandoff,
@@ -25,14 +25,14 @@ pub struct Joined {
 }
 
 // The state after a call, with its answer.
-#[derive(Drop)]
+#[derive(Clone, Copy)]
 pub struct JoinedUpdate {
     pub joined: Joined,
     pub answer: Answer,
 }
 
 // A new joined machine, or why there is none.
-#[derive(Drop)]
+#[derive(Clone, Copy)]
 pub enum NewJoined {
     Refused(InputRefusal),
     Joined(Joined),

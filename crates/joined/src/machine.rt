@@ -13,28 +13,28 @@ use machines::{FlightMode, InputRefusal, ModeRefusal};
 use numbers::logic::both;
 
 // Which aircraft: fixed when the joined machine is made.
-#[derive(Drop)]
+#[derive(Clone, Copy)]
 pub enum Airframe {
     Tailsitter,
     Quadplane,
 }
 
 // Either machine, with its own settings.
-#[derive(Drop)]
+#[derive(Clone, Copy)]
 pub enum Machine {
     Tailsitter(Transition),
     Quadplane(LiftTransition),
 }
 
 // The machine after a call, with its answer.
-#[derive(Drop)]
+#[derive(Clone, Copy)]
 pub(crate) struct MachineUpdate {
     pub machine: Machine,
     pub answer: TransitionAnswer,
 }
 
 // A new machine, or why there is none.
-#[derive(Drop)]
+#[derive(Clone, Copy)]
 pub(crate) enum NewMachine {
     Refused(InputRefusal),
     Machine(Machine),

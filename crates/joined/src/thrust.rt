@@ -15,7 +15,7 @@ use numbers::logic::{both, either};
 use numbers::math::min;
 
 // A step's thrust, and the handoff after it.
-#[derive(Drop)]
+#[derive(Clone, Copy)]
 pub(crate) struct Thrusted {
     pub handoff: ThrustHandoff,
     pub thrust: f32,

@@ -1,6 +1,8 @@
 // The two transition machines and their helpers (document 01, sections 2 to 5 and 8 to 10), after the Rust's guidance/vtol.
 // Every exported function is total: what document 01 turns down is an answer, and a state given is handed back as it was.
 // Here: the types of the Rust's lib.rs that the machines speak of.
+#![tactic(auto)]
+
 pub mod answer;
 pub mod control;
 pub mod deceleration;
@@ -24,14 +26,14 @@ ghost use Rattle.machines.specs.Refusals.{reason_of, report_of, refusal_of, fiel
 use numbers::vector::{Quaternion, Vec2, Vec3};
 
 // What is requested.
-#[derive(Drop)]
+#[derive(Clone, Copy)]
 pub enum FlightRegime {
     Copter,
     Plane,
 }
 
 // What is flown.
-#[derive(Drop)]
+#[derive(Clone, Copy)]
 pub enum FlightMode {
     Copter,
     Plane,
@@ -40,7 +42,7 @@ pub enum FlightMode {
 }
 
 // Why the requested regime is not flown: 11 to 16 of document 01, section 10.
-#[derive(Drop)]
+#[derive(Clone, Copy)]
 pub enum ModeRefusal {
     Unsupported,
     OnGround,
@@ -51,14 +53,14 @@ pub enum ModeRefusal {
 }
 
 // The report, or the abandonment, if any.
-#[derive(Drop)]
+#[derive(Clone, Copy)]
 pub enum MaybeRefusal {
     None,
     Some(ModeRefusal),
 }
 
 // Why a call is turned down: 1 to 5 of document 01, section 9. A setting has its field, from 1.
-#[derive(Drop)]
+#[derive(Clone, Copy)]
 pub enum InputRefusal {
     TimeStep,
     EntryTilt,
@@ -68,14 +70,14 @@ pub enum InputRefusal {
 }
 
 // What the airspeed sensor gives.
-#[derive(Drop)]
+#[derive(Clone, Copy)]
 pub enum Airspeed {
     Absent,
     Present(f32),
 }
 
 // An airspeed reading: a valid speed or none.
-#[derive(Drop)]
+#[derive(Clone, Copy)]
 pub enum AirspeedReading {
     None,
     Valid(f32),
@@ -83,7 +85,7 @@ pub enum AirspeedReading {
 
 // What a machine is told of the vehicle: any numbers. Position and velocity are north, east, up, and the acceleration is the horizontal one.
 // The attitude turns body axes (x the nose, y right, z down) into north, east, down.
-#[derive(Drop)]
+#[derive(Clone, Copy)]
 pub struct VehicleState {
     pub z_m: f32,
     pub velocity_mps: Vec3,

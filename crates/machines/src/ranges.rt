@@ -9,7 +9,7 @@ use numbers::bits::from_bits;
 use numbers::logic::both;
 
 // A field's range: the low end's bits and whether that end counts, then the high end's.
-#[derive(Drop)]
+#[derive(Clone, Copy)]
 struct Range(u32, bool, u32, bool);
 
 // The row of each airframe's field 1; its field n stands n - 1 rows after it.

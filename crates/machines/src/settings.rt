@@ -8,7 +8,7 @@ use numbers::ranges::{is_limit, is_quarter_turn_from_zero};
 
 // The tailsitter's settings, 1 to 17. Tilts are the nose's angle from vertical. 16 and 17 are the cosines of 2 and 6, and are what the machine compares with:
 // 2 and 6 themselves are checked and not read. 10 to 15 are read by the joined machine. A floor (9) or a sink limit (12) of 0 is off.
-#[derive(Drop)]
+#[derive(Clone, Copy)]
 pub struct TransitionConfig {
     pub forward_rate_radps: f32,
     pub forward_done_rad: f32,
@@ -31,7 +31,7 @@ pub struct TransitionConfig {
 
 // The quadplane's settings, 1 to 15. 9 to 12, 14 and 15 are read by the joined machine, and 13 is the pitch limit's.
 // A floor (5) of 0 is off.
-#[derive(Drop)]
+#[derive(Clone, Copy)]
 pub struct LiftTransitionConfig {
     pub min_airspeed_mps: f32,
     pub lift_ramp_s: f32,
@@ -51,14 +51,14 @@ pub struct LiftTransitionConfig {
 }
 
 // The split's settings, 1 and 2.
-#[derive(Drop)]
+#[derive(Clone, Copy)]
 pub struct ForwardThrustConfig {
     pub gain: f32,
     pub pitch_limit_rad: f32,
 }
 
 // What a check of settings finds: that they are good, or the refusal of the first test that fails.
-#[derive(Drop)]
+#[derive(Clone, Copy)]
 pub enum Validity {
     Valid,
     Bad(InputRefusal),

@@ -6,7 +6,7 @@ ghost use Rattle.std.specs.Float.Ieee.Nearest.{closest};
 ghost use Rattle.numbers.specs.Decimal.{of_decimal};
 
 // What a decimal gives: the number nearest to it, or that it has more than the nine places that are read.
-#[derive(Drop)]
+#[derive(Clone, Copy)]
 pub enum Decimal {
     Number(f32),
     TooManyPlaces,

@@ -12,7 +12,7 @@ use machines::{FlightMode, MaybeRefusal};
 use numbers::constants::nan;
 
 // What is kept from record to record.
-#[derive(Drop)]
+#[derive(Clone, Copy)]
 pub(crate) struct Kept {
     pub handoff: ThrustHandoff,
     pub deceleration: BackDeceleration,

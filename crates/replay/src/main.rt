@@ -1,5 +1,7 @@
 // Reads a list of calls from standard input, and writes a line for each: what the functions of `numbers` and `machines` answer.
 // A list is a row of records of 80 bytes each (module `record`). A record of another kind or option gives "unknown"; bytes after the last whole record are ignored.
+#![tactic(auto)]
+
 mod forward;
 mod hold;
 mod kept;
@@ -16,7 +18,7 @@ use libc::STDIN_FILENO;
 use numbers::logic::both;
 
 // What is kept after a record, and whether there was a whole one.
-#[derive(Drop)]
+#[derive(Clone, Copy)]
 struct Turn {
     kept: Kept,
     more: bool,

@@ -1,5 +1,7 @@
 // Reads a list of cards from standard input, and writes the transcript of each to standard output, one after the other.
 // Before a card stands its length, a little-endian u32. A length past 65,536 counts as that; a card that is cut off ends the list.
+#![tactic(auto)]
+
 use card::run::run;
 use libc::{STDIN_FILENO, STDOUT_FILENO};
 use numbers::bits::from_le_bytes;

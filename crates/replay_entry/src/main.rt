@@ -1,6 +1,8 @@
 // Reads a list of calls of the joined machine from standard input, and writes a line for each: its answer. Each step goes through the thin entry.
 // A list is a row of the records of flight cards (document 01, section 7), in the order of their chains. A header makes a new machine; one that is refused leaves the one before, and as the first it ends the list.
 // Bytes after the last whole record are ignored.
+#![tactic(auto)]
+
 mod record;
 mod show;
 
@@ -14,7 +16,7 @@ use libc::STDIN_FILENO;
 use record::number;
 
 // The machine after a record, and whether there was a whole one.
-#[derive(Drop)]
+#[derive(Clone, Copy)]
 struct Turn {
     joined: Joined,
     more: bool,

@@ -1,6 +1,8 @@
 // Reads a list of checks from standard input, and writes a line for each: what `check` answers to a card, and every byte of the marks after it.
 // Before a check stand three little-endian u32s: how many bytes are put over the start of the card before it, how many bytes are the card then, and how many marks are lent. Those bytes follow, then the marks.
 // A number past its buffer counts as the buffer's length; a check that is cut off ends the list.
+#![tactic(auto)]
+
 use card::chain::{Checked, check};
 use libc::{STDIN_FILENO, STDOUT_FILENO};
 use numbers::bits::from_le_bytes;

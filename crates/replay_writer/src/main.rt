@@ -2,6 +2,8 @@
 // Before a list stand three little-endian u32s: how many calls it has, how many bytes are lent (at most 65,536), and how many calls are given (at most 799).
 // Then the header, of which the kind and the settings are looked at, and the given calls, each as a record of a card. The calls that are not given are primes at 0, and so is a record that is no call.
 // The lent bytes are 165 before. Bytes that are missing after a header count as 0.
+#![tactic(auto)]
+
 ghost use Rattle.std.specs.Prelude.{◌≡◌, length};
 
 use card::record::{Record, read_record};

@@ -1,12 +1,14 @@
 // Reads a card from standard input, and writes the transcript of its run to standard output (document 01, section 7).
 // An input that cannot be read to its end is not run. That, and an output that cannot be written, is said on standard error.
+#![tactic(auto)]
+
 ghost use Rattle.io.specs.Counts.{IsPrefixLen};
 
 use card::run::run;
 use libc::{STDIN_FILENO, STDOUT_FILENO};
 
 // How many bytes were read before the input ended or the buffer was full, and whether a read failed.
-#[derive(Drop)]
+#[derive(Clone, Copy)]
 struct Input {
     length: usize,
     failed: bool,

@@ -9,7 +9,7 @@ use machines::settings::{LiftTransitionConfig, TransitionConfig};
 use numbers::logic::both;
 
 // Numbers 1 to 17 (number 0 is no number of a record), which of them the line names, and the first thing that is wrong.
-#[derive(Drop)]
+#[derive(Clone, Copy)]
 pub(crate) struct Fields {
     pub numbers: [f32; 18],
     pub named: [bool; 18],

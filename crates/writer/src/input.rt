@@ -12,7 +12,7 @@ pub(crate) fn text_buffer() -> [u8; 1_048_577]
 }
 
 // How many bytes were read before the input ended or the buffer was full, and whether a read failed.
-#[derive(Drop)]
+#[derive(Clone, Copy)]
 pub(crate) struct Input {
     pub length: usize,
     pub failed: bool,

@@ -12,21 +12,21 @@ use numbers::logic::both;
 use numbers::vector::{Quaternion, Vec2, Vec3};
 
 // The header, or what is wrong with its line.
-#[derive(Drop)]
+#[derive(Clone, Copy)]
 pub(crate) enum HeaderLine {
     Header(Airframe, Settings),
     Bad(Problem),
 }
 
 // A call, or what is wrong with its line.
-#[derive(Drop)]
+#[derive(Clone, Copy)]
 enum Made {
     Call(Call),
     Bad(Problem),
 }
 
 // A word: where it begins, where its '=' is, or its end if it has none, and its end.
-#[derive(Drop)]
+#[derive(Clone, Copy)]
 struct Word {
     from: usize,
     equals: usize,
@@ -34,14 +34,14 @@ struct Word {
 }
 
 // Where the words of a call end, and how often it is made; or what is wrong there.
-#[derive(Drop)]
+#[derive(Clone, Copy)]
 enum Ending {
     Times(usize, usize),
     Bad(Problem),
 }
 
 // A call and how often it is made.
-#[derive(Drop)]
+#[derive(Clone, Copy)]
 pub(crate) enum CallLine {
     Times(Call, usize),
     Bad(Problem),

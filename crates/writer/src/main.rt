@@ -1,6 +1,8 @@
 // The planners' program (document 02, 2.1): the text of a card on standard input, the card on standard output.
 // If there is none, nothing is written there, and one line on standard error says which line of the text is wrong and what was expected. `oracle/card --help` describes the form; what that takes beyond it is refused here.
 // With the argument `list` it takes a list of texts (src/list.rt). No program sets its exit status: it is 0 either way.
+#![tactic(auto)]
+
 mod fields;
 mod input;
 mod line;

@@ -9,14 +9,14 @@ use numbers::decimal::{Decimal, from_decimal};
 use numbers::logic::both;
 
 // A word as a number, or why it is none.
-#[derive(Drop)]
+#[derive(Clone, Copy)]
 pub(crate) enum Number {
     Value(f32),
     Bad(NumberWhy),
 }
 
 // Ten to the power `up`, over ten to the power `down`.
-#[derive(Drop)]
+#[derive(Clone, Copy)]
 struct Scale {
     up: usize,
     down: usize,

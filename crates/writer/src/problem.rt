@@ -2,7 +2,7 @@
 use joined::machine::Airframe;
 
 // The words that a line can name: the parts of a prime or of a step, or the settings of an airframe.
-#[derive(Drop)]
+#[derive(Clone, Copy)]
 pub(crate) enum Names {
     Prime,
     Step,
@@ -11,7 +11,7 @@ pub(crate) enum Names {
 }
 
 // What is wrong with a text's beginning or its header: each of these has its message in say.rt.
-#[derive(Drop)]
+#[derive(Clone, Copy)]
 pub(crate) enum HeaderWhy {
     Utf16,
     Missing,
@@ -21,7 +21,7 @@ pub(crate) enum HeaderWhy {
 }
 
 // What is wrong with a call's first or last word, with a step's request or with a cut's reason.
-#[derive(Drop)]
+#[derive(Clone, Copy)]
 pub(crate) enum CallWhy {
     Unknown,
     Record,
@@ -32,7 +32,7 @@ pub(crate) enum CallWhy {
 }
 
 // What is wrong with a word NAME=NUMBER, or with how many words a line has.
-#[derive(Drop)]
+#[derive(Clone, Copy)]
 pub(crate) enum PartWhy {
     NoEquals,
     Unknown(Names),
@@ -45,14 +45,14 @@ pub(crate) enum PartWhy {
 }
 
 // What is wrong with a number.
-#[derive(Drop)]
+#[derive(Clone, Copy)]
 pub(crate) enum NumberWhy {
     NoNumber,
     TooLong,
 }
 
 // What is wrong.
-#[derive(Drop)]
+#[derive(Clone, Copy)]
 pub(crate) enum Why {
     Header(HeaderWhy),
     Call(CallWhy),
@@ -61,7 +61,7 @@ pub(crate) enum Why {
 }
 
 // What is wrong, and the word that shows it; no word if it ends where it begins.
-#[derive(Drop)]
+#[derive(Clone, Copy)]
 pub(crate) struct Problem {
     pub why: Why,
     pub from: usize,
@@ -74,7 +74,7 @@ pub(crate) fn problem_at(why: Why, from: usize, to: usize) -> Problem {
 }
 
 // Whether something is wrong.
-#[derive(Drop)]
+#[derive(Clone, Copy)]
 pub(crate) enum Verdict {
     Good,
     Bad(Problem),

@@ -4,7 +4,7 @@ ghost use Rattle.std.specs.Prelude.{◌≤◌};
 use numbers::logic::{both, either};
 
 // The bytes that the form tells apart.
-#[derive(Drop)]
+#[derive(Clone, Copy)]
 pub(crate) enum Set {
     Blank,
     LineEnd,

@@ -12,7 +12,7 @@ use joined::settings::Settings;
 use numbers::logic::{both, either};
 
 // The header, once its line is read.
-#[derive(Drop)]
+#[derive(Clone, Copy)]
 enum Header {
     None,
     Read(Airframe, Settings),
@@ -20,7 +20,7 @@ enum Header {
 
 // Where the reading of a text stands: the next line begins at `at`, the last that was read is number `line`, its call is to be stored `left` more times,
 // and `count` calls are stored; 800 stands for any more than 799.
-#[derive(Drop)]
+#[derive(Clone, Copy)]
 struct Reading {
     at: usize,
     line: usize,
@@ -34,7 +34,7 @@ struct Reading {
 }
 
 // What comes of a text: a card's length; a refusal of the writer's, with the line that it is about and the card's airframe; or what is wrong, and in which line.
-#[derive(Drop)]
+#[derive(Clone, Copy)]
 pub(crate) enum Outcome {
     Card(usize),
     Refused(WriteRefusal, usize, Airframe),
@@ -42,7 +42,7 @@ pub(crate) enum Outcome {
 }
 
 // A byte order mark: of UTF-16, of UTF-8, or none.
-#[derive(Drop)]
+#[derive(Clone, Copy)]
 enum Mark {
     Utf16,
     Utf8,

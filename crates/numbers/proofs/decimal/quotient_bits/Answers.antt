@@ -1,6 +1,6 @@
 -- `numbers::decimal::quotient_bits` meets its contract: n * 2 ^ e stays what it was, m * 2 ^ 158. Assumes nothing.
 use mathlib.Core.Path.{◌≡◌, ◌∙◌}
-use Prim.Native.Nat.{ℕ, ◌*◌, ◌^◌, ◌≤◌, ◌<◌}
+use Prim.Native.Nat.{ℕ, ◌*◌, ◌^◌, ◌<◌}
 use native.Mathlib.Omega.{arith}
 use lib.Dec.{lit≤}
 use Rattle.numbers.proofs.Laws.Whole.{more_power, moved_power}

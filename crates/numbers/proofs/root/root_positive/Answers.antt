@@ -1,7 +1,7 @@
 -- `numbers::root::root_positive` meets its contract. Assumes nothing.
 use mathlib.Core.Path.{sym, ap, ◌∙◌, subst}
 use lib.Dec.{T}
-use lib.Ieee.{binary32, fits}
+use lib.Ieee.{binary32}
 use lib.Ieee.Bits.{of_bits-to_bits}
 use Rattle.numbers.specs.Root.{root_of}
 use Rattle.numbers.proofs.Laws.RootCases.{positive_pattern, below_infinity}

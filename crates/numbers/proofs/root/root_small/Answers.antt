@@ -1,6 +1,5 @@
 -- `numbers::root::root_small` meets its contract: m * 2 ^ f stays what it was, b * 2 ^ 126. Assumes nothing.
-use mathlib.Core.Path.{◌≡◌, ◌∙◌}
-use Prim.Native.Nat.{◌*◌, ◌^◌, ◌≤◌, ◌<◌}
+use mathlib.Core.Path.{◌∙◌}
 use native.Mathlib.Omega.{arith}
 use lib.Dec.{lit≤}
 use Rattle.numbers.proofs.Laws.Whole.{more_power, moved_power}

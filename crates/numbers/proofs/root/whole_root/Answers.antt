@@ -1,5 +1,5 @@
 -- `numbers::whole_root`: from the second guess on, n is below the square of one more than the guess; at the exit it is not below the guess's own square. Assumes nothing.
-use Prim.Native.Nat.{◌+◌, ◌-◌, ◌*◌, ◌/◌, ◌^◌, ◌≤◌, ◌<◌}
+use Prim.Native.Nat.{◌+◌, ◌/◌, ◌^◌, ◌≤◌, ◌<◌}
 use native.Mathlib.Omega.{arith}
 use Rattle.numbers.specs.Root.{whole_root}
 use Rattle.numbers.proofs.Laws.Newton.{newton_above, better_low, start_high, better_high}

@@ -115,3 +115,6 @@ fn without_number(text: &str) -> &str {
         None => text,
     }
 }
+
+#[cfg(test)]
+mod tests;

@@ -1,5 +1,5 @@
 // Reading to a buffer's end, writing bytes and numbers, and what is said of a failure, over any reader and writer of std.
-// No function here has a `requires`. A read that a signal interrupts before it moves a byte counts as one that failed.
+// No function here has a `requires`. A read that a signal interrupts before it moves a byte counts as one that failed; such a write is made again.
 #![tactic(auto)]
 
 ghost use Rattle.std.specs.Prelude.{◌≡◌, ◌<◌, length, take, IsTrue, None};
@@ -99,7 +99,7 @@ pub fn print_hex<W: Write>(to: &mut W, n: u64, width: usize) -> bool
     write!(to, "{n:0width$x}").is_ok()
 }
 
-// Writes a line: what failed, as the caller names it, a colon and what the error says.
+// Writes a line: what failed, as the caller names it, a colon and what the error says, of which 300 bytes are kept. A line that cannot be written is left out.
 pub fn fail<W: Write>(to: &mut W, what: &[u8], error: io::Error) {
     let text = InlineText::<300>::of(error);
     write_all(to, what);

@@ -23,6 +23,8 @@ pub mod Values
 pub mod Returned
 pub mod InPlace
 pub mod Runs
+pub mod Linked
+pub mod Environment
 pub mod InRecord
 pub mod Stretches
 pub mod Theorem

@@ -51,7 +51,7 @@ impl Joined {
     }
 
     // The machine with a new handoff, pitch 0 and thrust 0. A machine's own duration is a limit, so there is nothing to refuse.
-    fn initial(machine: Machine) -> Joined
+    pub(crate) fn initial(machine: Machine) -> Joined
         ensures { result ≡ initial machine }
     {
         let handoff = ThrustHandoff::inactive(machine.handoff_s());
@@ -65,7 +65,7 @@ impl Joined {
     }
 
     // The state with the answer that shows it.
-    fn answered(self, step: TransitionStep) -> JoinedUpdate
+    pub(crate) fn answered(self, step: TransitionStep) -> JoinedUpdate
         ensures { result ≡ answered self step }
     {
         let mode = step.mode;
@@ -85,7 +85,7 @@ impl Joined {
     }
 
     // The state as it was.
-    fn refused(self, why: InputRefusal) -> JoinedUpdate
+    pub(crate) fn refused(self, why: InputRefusal) -> JoinedUpdate
         ensures { result ≡ refused_by self why }
     {
         JoinedUpdate {
@@ -95,7 +95,7 @@ impl Joined {
     }
 
     // By the machine's answer: the state as it was, or the next one with the line that shows it.
-    fn answered_if(self, answer: TransitionAnswer, next: Joined) -> JoinedUpdate
+    pub(crate) fn answered_if(self, answer: TransitionAnswer, next: Joined) -> JoinedUpdate
         ensures { result ≡ answered_if answer self next }
     {
         match answer {
@@ -105,7 +105,7 @@ impl Joined {
     }
 
     // A fresh handoff from the kept thrust, if one starts, or the old one.
-    fn handoff_if(self, starts: bool, machine: Machine) -> ThrustHandoff
+    pub(crate) fn handoff_if(self, starts: bool, machine: Machine) -> ThrustHandoff
         ensures { result ≡ handoff_if starts self machine }
     {
         if starts {
@@ -116,7 +116,7 @@ impl Joined {
     }
 
     // The state after a step that moved the machine: handoff, pitch and thrust.
-    fn stepped(self, machine: Machine, step: TransitionStep, input: StepInput) -> Joined
+    pub(crate) fn stepped(self, machine: Machine, step: TransitionStep, input: StepInput) -> Joined
         ensures { result ≡ stepped self machine step input }
     {
         let found = self.machine;
@@ -138,7 +138,7 @@ impl Joined {
     }
 
     // The update of a step, with what becomes of handoff, pitch and thrust.
-    fn stepped_by(self, update: MachineUpdate, input: StepInput) -> JoinedUpdate
+    pub(crate) fn stepped_by(self, update: MachineUpdate, input: StepInput) -> JoinedUpdate
         ensures { result ≡ stepped_if update.answer self update.machine input }
     {
         let machine = update.machine;

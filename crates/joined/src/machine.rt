@@ -54,7 +54,7 @@ impl MachineUpdate {
 }
 
 // The update of a tailsitter's machine as one of either.
-fn of_transition(update: TransitionUpdate) -> MachineUpdate
+pub(crate) fn of_transition(update: TransitionUpdate) -> MachineUpdate
     ensures { result ≡ of_transition update }
 {
     let machine = update.machine;
@@ -66,7 +66,7 @@ fn of_transition(update: TransitionUpdate) -> MachineUpdate
 }
 
 // The update of a quadplane's machine as one of either.
-fn of_lift(update: LiftTransitionUpdate) -> MachineUpdate
+pub(crate) fn of_lift(update: LiftTransitionUpdate) -> MachineUpdate
     ensures { result ≡ of_lift update }
 {
     let machine = update.machine;
@@ -78,7 +78,7 @@ fn of_lift(update: LiftTransitionUpdate) -> MachineUpdate
 }
 
 // Whether a mode is a transition.
-fn is_transition(mode: FlightMode) -> bool
+pub(crate) fn is_transition(mode: FlightMode) -> bool
     ensures { result ≡ transitioning mode }
 {
     match mode {
@@ -90,14 +90,14 @@ fn is_transition(mode: FlightMode) -> bool
 }
 
 // The absolute value of a number. A NaN stays.
-fn abs(x: f32) -> f32
+pub(crate) fn abs(x: f32) -> f32
     ensures { result ≡ abs_of x }
 {
     if x < 0.0 { -x } else { x }
 }
 
 // A new tailsitter's machine with these settings.
-fn new_tailsitter(settings: Settings) -> NewMachine
+pub(crate) fn new_tailsitter(settings: Settings) -> NewMachine
     ensures { result ≡ new_machine_of airframe.Tailsitter settings }
 {
     let made = Transition::new(settings.transition_config());
@@ -108,7 +108,7 @@ fn new_tailsitter(settings: Settings) -> NewMachine
 }
 
 // A new quadplane's machine with these settings.
-fn new_quadplane(settings: Settings) -> NewMachine
+pub(crate) fn new_quadplane(settings: Settings) -> NewMachine
     ensures { result ≡ new_machine_of airframe.Quadplane settings }
 {
     let made = LiftTransition::new(settings.lift_transition_config());
@@ -158,7 +158,7 @@ impl Machine {
     }
 
     // The bank past which a transition is cut short.
-    fn roll_limit_rad(self) -> f32
+    pub(crate) fn roll_limit_rad(self) -> f32
         ensures { result ≡ roll_limit_of self }
     {
         match self {

@@ -22,14 +22,14 @@ pub(crate) struct Thrusted {
 }
 
 // Whether two modes are the same.
-fn is_mode(mode: FlightMode, other: FlightMode) -> bool
+pub(crate) fn is_mode(mode: FlightMode, other: FlightMode) -> bool
     ensures { result ≡ mode_is mode other }
 {
     letter(mode) == letter(other)
 }
 
 // Whether a step entered a mode.
-fn entered(mode: FlightMode, before: FlightMode, after: FlightMode) -> bool
+pub(crate) fn entered(mode: FlightMode, before: FlightMode, after: FlightMode) -> bool
     ensures { result ≡ entered mode before after }
 {
     both(!is_mode(mode, before), is_mode(mode, after))
@@ -58,7 +58,7 @@ pub(crate) fn entry_pitch(
 }
 
 // The demand, through the handoff. An accepted dt is never refused here.
-fn blend(handoff: ThrustHandoff, input: StepInput) -> Thrusted
+pub(crate) fn blend(handoff: ThrustHandoff, input: StepInput) -> Thrusted
     ensures { result ≡ blended handoff input }
 {
     let applied = handoff.apply(input.dt, input.demand);
@@ -74,7 +74,7 @@ fn blend(handoff: ThrustHandoff, input: StepInput) -> Thrusted
 }
 
 // The tailsitter's thrust in ToCopter: raised by the sink guard.
-fn back_thrust(config: TransitionConfig, climb_mps: f32) -> f32
+pub(crate) fn back_thrust(config: TransitionConfig, climb_mps: f32) -> f32
     ensures { result ≡ back_thrust_of config climb_mps }
 {
     let guarded = guard_sink(
@@ -90,7 +90,7 @@ fn back_thrust(config: TransitionConfig, climb_mps: f32) -> f32
 }
 
 // The tailsitter's thrust, by the mode after the step.
-fn tailsitter_thrust(
+pub(crate) fn tailsitter_thrust(
     after: FlightMode,
     config: TransitionConfig,
     handoff: ThrustHandoff,
@@ -113,7 +113,7 @@ fn tailsitter_thrust(
 }
 
 // The quadplane's thrust in ToPlane: 0 on entering it, then rising by the slew up to the forward thrust.
-fn run_up(enters: bool, config: LiftTransitionConfig, kept: f32, dt: f32) -> f32
+pub(crate) fn run_up(enters: bool, config: LiftTransitionConfig, kept: f32, dt: f32) -> f32
     ensures { result ≡ run_up enters config kept dt }
 {
     if enters {
@@ -124,7 +124,7 @@ fn run_up(enters: bool, config: LiftTransitionConfig, kept: f32, dt: f32) -> f32
 }
 
 // The quadplane's thrust, by the mode after the step. In ToPlane a running handoff stands still.
-fn quadplane_thrust(
+pub(crate) fn quadplane_thrust(
     after: FlightMode,
     enters: bool,
     config: LiftTransitionConfig,
@@ -153,7 +153,7 @@ impl Machine {
     }
 
     // The quadplane's deceleration in ToCopter.
-    fn decelerated(self, input: StepInput, pitch: BackDeceleration) -> BackDeceleration
+    pub(crate) fn decelerated(self, input: StepInput, pitch: BackDeceleration) -> BackDeceleration
         ensures { result ≡ decelerated self input pitch }
     {
         match self {

@@ -10,7 +10,7 @@ use numbers::logic::both;
 
 // A field's range: the low end's bits and whether that end counts, then the high end's.
 #[derive(Clone, Copy)]
-struct Range(u32, bool, u32, bool);
+pub(crate) struct Range(u32, bool, u32, bool);
 
 // The row of each airframe's field 1; its field n stands n - 1 rows after it.
 pub(crate) const TAILSITTER: usize = 0;
@@ -56,7 +56,7 @@ const RANGES: [Range; 32] = [
 ];
 
 // x is below y, or equal to it if that counts.
-fn is_under(x: f32, y: f32, inclusive: bool) -> bool
+pub(crate) fn is_under(x: f32, y: f32, inclusive: bool) -> bool
     ensures { result ≡ is_under inclusive x y }
 {
     if inclusive { x <= y } else { x < y }
@@ -64,7 +64,7 @@ fn is_under(x: f32, y: f32, inclusive: bool) -> bool
 
 impl Range {
     // Whether x is in the range.
-    fn contains(self, x: f32) -> bool
+    pub(crate) fn contains(self, x: f32) -> bool
         ensures { result ≡ contains self x }
     {
         both(

@@ -20,3 +20,4 @@ pub mod RootPattern
 pub mod RootCases
 pub mod Quotient
 pub mod Examples
+pub mod Linked

@@ -1,26 +1,20 @@
 -- The header: the refusal of a making is document 01's 3, and a header that is not refused is a new joined machine with the card's settings. Assumes nothing.
-use mathlib.Core.Path.{◌≡◌, refl, sym, ◌∙◌, subst}
-use mathlib.Core.Bool.{Bool, true, false, ◌&&◌}
-use mathlib.Core.List.{List, [], ◌∷◌}
+use mathlib.Core.Path.{◌≡◌, refl}
+use mathlib.Core.Bool.{Bool, true, false}
+use mathlib.Core.List.{List}
 use Prim.Native.Nat.{ℕ}
 use lib.Dec.{T, eqb}
-use lib.Ieee.Fits.{and_l, and_r}
 use Rattle.numbers.specs.Numbers.{if◌then◌else◌}
 use Rattle.machines.specs.declared.InputRefusal.{InputRefusal}
 use Rattle.machines.specs.declared.InputRefusal.TheVariants.{TimeStep, EntryTilt, Setting, HandoffDuration, Tangent}
-use Rattle.machines.specs.declared.settings.Validity.{Validity}
-use Rattle.machines.specs.declared.settings.Validity.TheVariants.{Valid, Bad}
 use Rattle.machines.specs.Refusals.{refusal_of}
-use Rattle.machines.specs.Settings.{Test, verdict, transition_tests, lift_tests}
 use Rattle.joined.specs.declared.machine.Airframe.{Airframe}
 use Rattle.joined.specs.declared.machine.Airframe.TheVariants as airframe
 use Rattle.joined.specs.declared.settings.Settings.{Settings}
 use Rattle.joined.specs.declared.joined.Joined.{Joined}
 use Rattle.joined.specs.declared.joined.NewJoined.{NewJoined}
 use Rattle.joined.specs.declared.joined.NewJoined.TheVariants as made
-use Rattle.joined.specs.Machine.{transition_config_of, lift_transition_config_of}
 use Rattle.joined.specs.Joined.{new_of}
-use Rattle.joined.proofs.Laws.Effects.{validity_in}
 use Rattle.joined.proofs.Laws.Answers.{of_settings, new_three}
 use Rattle.card.specs.Format.{kind_at, option_at, settings_at, header_for, header_of}
 use Rattle.card.specs.CardRefusals.{card_refusal_of}

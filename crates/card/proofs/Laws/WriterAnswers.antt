@@ -8,7 +8,6 @@ use lib.Dec.{ltb}
 use lib.ListN.{length, take, drop, length-reverse}
 use lib.Seq.{length-take-le, take_at, drop_at}
 use borrow.Author.Tests.{ltb-true, ltb-false}
-use Rattle.numbers.specs.Numbers.{if◌then◌else◌}
 use Rattle.machines.specs.declared.InputRefusal.{InputRefusal}
 use Rattle.joined.specs.declared.settings.Settings.{Settings}
 use Rattle.joined.specs.declared.call.Call.{Call}
@@ -19,7 +18,7 @@ use Rattle.joined.specs.declared.joined.NewJoined.TheVariants as made
 use Rattle.joined.specs.Binary32.{Binary32Settings, Binary32Calls}
 use Rattle.joined.specs.Joined.{new_of}
 use Rattle.card.specs.Encoding.{encode_header}
-use Rattle.card.specs.Writer.{record_bytes, card_of, card_bytes, write_refusal_of, Writing, not_written, write_by, write_of, Writes}
+use Rattle.card.specs.Writer.{record_bytes, card_of, card_bytes, write_refusal_of, Writing, write_by, write_of, Writes}
 use Rattle.card.specs.declared.write.WriteRefusal.{WriteRefusal}
 use Rattle.card.specs.declared.write.WriteRefusal.TheVariants as refusal
 use Rattle.card.specs.declared.write.Wrote.{Wrote}

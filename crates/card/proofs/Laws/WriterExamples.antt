@@ -1,15 +1,11 @@
 -- Request 2.1, worked examples: section 7's card written from its calls, and records of each kind with their numbers as bits. Assumes nothing.
 use mathlib.Core.Path.{◌≡◌, refl}
-use mathlib.Core.List.{List, [], ◌∷◌, ◌++◌, reverse}
-use lib.ListN.{length, replicate}
+use mathlib.Core.List.{◌∷◌, ◌++◌, reverse}
+use lib.ListN.{replicate}
 use lib.Ieee.{Float, nan, of_bits, to_bits}
-use Rattle.numbers.specs.Numbers.{zero32, one32}
-use Rattle.machines.specs.declared.Airspeed.{Airspeed}
-use Rattle.machines.specs.declared.Airspeed.TheVariants as airspeed
-use Rattle.machines.specs.declared.FlightRegime.TheVariants as regime
+use Rattle.numbers.specs.Numbers.{one32}
 use Rattle.machines.specs.declared.ModeRefusal.TheVariants as reason
 use Rattle.machines.specs.declared.InputRefusal.TheVariants as input
-use Rattle.joined.specs.declared.call.StepInput.{StepInput}
 use Rattle.joined.specs.declared.call.Call.TheVariants as call
 use Rattle.joined.specs.declared.machine.Airframe.TheVariants as airframe
 use Rattle.joined.specs.Calls.{settings_by, vehicle_by, step_input_by}

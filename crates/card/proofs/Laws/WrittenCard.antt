@@ -5,10 +5,9 @@ use mathlib.Core.Bool.{true}
 use mathlib.Core.List.{List, [], ◌∷◌, ◌++◌, map, append_assoc}
 use Prim.Native.Nat.{ℕ, zero, suc, ◌+◌, ◌*◌, ◌/◌, ◌%◌, ◌<◌, ◌≤◌}
 use native.Mathlib.Omega.{arith}
-use lib.Dec.{leb, ltb}
+use lib.Dec.{leb}
 use lib.ListN.{length, drop}
 use borrow.Author.Tests.{le-leb, eq-eqb}
-use Rattle.numbers.specs.Numbers.{if◌then◌else◌}
 use Rattle.joined.specs.declared.settings.Settings.{Settings}
 use Rattle.joined.specs.declared.call.Call.{Call}
 use Rattle.joined.specs.declared.call.Call.TheVariants as call
@@ -30,7 +29,7 @@ use Rattle.joined.proofs.Laws.Moves.{airframe_kept}
 use Rattle.joined.proofs.Laws.Every.{claim}
 use Rattle.card.specs.Format.{header_kind, kind_at, option_at, next_at, settings_at, record_at, is_known, header_for, header_of}
 use Rattle.card.specs.Encoding.{used_settings, encode_of, used_call}
-use Rattle.card.specs.Writer.{next_of, card_of, card_bytes, Writing, not_written, write_by, write_of}
+use Rattle.card.specs.Writer.{next_of, card_of, card_bytes, write_by, write_of}
 use Rattle.card.specs.Chain.{whole, records, Chain, stopped, chain_of, outcome_of}
 use Rattle.card.specs.Text.{end_line}
 use Rattle.card.specs.Transcript.{with_call, calls_of, lines_of, transcript_by, transcript_of}
@@ -38,7 +37,6 @@ use Rattle.card.specs.declared.record.Record.{Record}
 use Rattle.card.specs.declared.record.Record.TheVariants as says
 use Rattle.card.specs.declared.record.Header.{Header}
 use Rattle.card.specs.declared.record.Header.TheVariants as header
-use Rattle.card.specs.declared.write.WriteRefusal.TheVariants as refusal
 use Rattle.card.specs.declared.write.Wrote.TheVariants as wrote
 use Rattle.card.specs.declared.chain.Checked.TheVariants as checked
 use Rattle.card.proofs.Laws.RoundTrip.{Holds, settings_back, call_back}

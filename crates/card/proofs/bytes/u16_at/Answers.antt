@@ -1,0 +1,7 @@
+-- `card::bytes::u16_at` meets its contract. Assumes nothing.
+use Rattle.card.specs.Bytes.{u16_at}
+use Rattle.card.proofs.bytes.u16_at.Goals as goal
+
+pub returns : goal.returns
+unfolding u16_at
+returns c = cc

@@ -18,15 +18,22 @@ TEXT = CARD.with_suffix(".txt")
 ODD_TEXT = ROOT / "examples/chain.txt"
 AT_ONCE = 16
 ODD_NAME = "a b&<'\"$(touch x)\x01.card"
-# Stands in for the kit's rt: counts its calls, takes a second, and puts the program in its place or fails; or a source changes meanwhile.
+# Stands in for the kit's `rt run` in the crate's folder: counts its calls, takes a second, leaves files of its own in out/, puts the program in its place and runs it, or fails; or a source changes meanwhile.
+# What it ends with is the program's status, 7 here, and rt's own words are on standard error.
 FAKE_RT = """#!/bin/sh
 echo called >>"$FAKE/calls"
-echo "rt: numbers proved (1 s)"
+name=${PWD##*/}
+[ "$*" = run ] && [ -f ../../crates.txt ] && [ /dev/stdin -ef /dev/null ] || { echo "rt: called otherwise" >&2; exit 2; }
+mkdir -p out && date +%N >out/kept.antt && date +%N >out/kept.rt
+[ ! -e "$FAKE/waits" ] || echo "rt: waiting for another rt to finish in $PWD" >&2
+printf 'crate %s: modules loaded=1 checked=1\\nlogic=proved functions=1\\n' numbers >&2
 sleep 1
-[ ! -e "$FAKE/changes" ] || { echo "// changed" >>crates/numbers/src/lib.rt; rm "$FAKE/changes"; }
-[ ! -e "$FAKE/fails" ] || { echo "rt: $2 NOT PROVED (exit 1, 1 s)"; exit 1; }
-mkdir -p target/bin && cp "$FAKE/$2" "target/bin/$2"
-echo "rt: $2 proved (1 s)"
+[ ! -e "$FAKE/changes" ] || { echo "// changed" >>../numbers/src/lib.rt; rm "$FAKE/changes"; }
+[ ! -e "$FAKE/fails" ] || { printf 'crate %s: modules loaded=1 checked=1\\nlogic=not-proved\\n' "$name" >&2; exit 1; }
+cp "$FAKE/$name" "out/$name"
+printf 'crate %s: modules loaded=1 checked=1\\nlogic=proved functions=1\\nrt: running out/%s; to give it other input, run that file yourself\\n' "$name" "$name" >&2
+"out/$name"
+exit 7
 """
 
 
@@ -35,7 +42,8 @@ class Clone:
 
     def __init__(self, place, runner, writer):
         self.root, self.fake = place / "clone", place / "fake"
-        (self.root / "crates/numbers/src").mkdir(parents=True)
+        for crate in ("numbers/src", "runner", "writer"):
+            (self.root / "crates" / crate).mkdir(parents=True)
         self.fake.mkdir()
         self.change("crates.txt", "numbers:\n")
         self.change("crates/numbers/src/lib.rt", "// one\n")
@@ -102,7 +110,12 @@ def building(found, clone):
     found.hold("a runner that was changed is built again", clone.fly()[:2] == (0, right()) and clone.calls() == 3, str(clone.calls()))
     shutil.rmtree(clone.root / "target/fly")
     status, said, words = clone.fly()
-    found.hold("after the gate the first flight speaks of no minutes", (status, said) == (0, right()) and b"minutes" not in words, words.decode())
+    found.hold("where rt has the runner still, the first flight speaks of no minutes", (status, said) == (0, right()) and b"minutes" not in words, words.decode())
+    clone.change("crates/numbers/src/lib.rt", "// three\n")
+    (clone.fake / "waits").touch()
+    status, said, words = clone.fly()
+    found.hold("and else of them, of a wait for another rt and of each crate", (status, said) == (0, right()) and all(told in words for told in (b"minutes", b"fly: waiting for another rt ", b"fly: numbers proved\n", b"fly: runner proved\n")), words.decode())
+    (clone.fake / "waits").unlink()
 
 
 def texts(found, clone):
@@ -148,7 +161,7 @@ def rebuilding(found, clone):
     clone.change("crates.txt", "# one that is not proved\n")
     found.hold("what is not proved is not flown, also where nobody hears why", unheard(clone)[0] == b"")
     status, said, words = clone.fly()
-    found.hold("nor afterwards", (status, said) == (2, b"") and b"not proved and built" in words, words.decode())
+    found.hold("nor afterwards", (status, said) == (2, b"") and b"not proved and built" in words and b"runner proved" not in words, words.decode())
 
 
 def drawn(path):

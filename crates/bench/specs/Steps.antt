@@ -1,9 +1,9 @@
 -- The steps of a list, in the numbers of document 01, section 7, and the sum of their answers, which is for bench/ and no part of document 01. Definitions only. Assumes nothing.
 -- The numbers of step i stand from index 15 * i on, its option at index i. Past the end there are NaNs and zeros; no step reaches there.
-use Rattle.std.specs.Prelude.{ℕ, zero, suc, ◌+◌, ◌-◌, ◌*◌, ◌%◌, ◌^◌, ◌&&◌, List, [], ◌∷◌, length, ◌==◌, nat_le, slice_index, slice_index_or, Float}
+use Rattle.std.specs.Prelude.{ℕ, zero, suc, ◌+◌, ◌-◌, ◌*◌, ◌%◌, ◌^◌, ◌&&◌, List, [], ◌∷◌, length, ◌==◌, nat_le, slice_index, slice_index_or, Float, if◌then◌else◌}
 use Rattle.std.proofs.Math.Option.{Option, some, none}
 use Rattle.std.specs.Float.{nan}
-use Rattle.numbers.specs.Numbers.{if◌then◌else◌, zero32}
+use Rattle.numbers.specs.Numbers.{zero32}
 use Rattle.joined.specs.declared.call.Call.{Call}
 use Rattle.joined.specs.declared.call.Call.TheVariants as call
 use Rattle.joined.specs.declared.answer.Answer.{Answer}

@@ -1,6 +1,5 @@
 -- Document 01, section 9: the check of a card, and the marks that it leaves. Definitions only. Assumes nothing.
-use Rattle.std.specs.Prelude.{ℕ, zero, suc, ◌/◌, ◌%◌, ◌≡◌, Bool, false, ◌&&◌, ◌||◌, List, [], ◌∷◌, ◌++◌, length, drop, set, replicate, eqb, leb}
-use Rattle.numbers.specs.Numbers.{if◌then◌else◌}
+use Rattle.std.specs.Prelude.{ℕ, zero, suc, ◌/◌, ◌%◌, ◌≡◌, Bool, false, ◌&&◌, ◌||◌, List, [], ◌∷◌, ◌++◌, length, drop, set, replicate, eqb, leb, if◌then◌else◌}
 use Rattle.card.specs.Format.{next_at, record_at, is_known, header_of}
 use Rattle.card.specs.declared.refusal.CardRefusal.TheVariants as refusal
 use Rattle.card.specs.declared.record.Header.{Header}

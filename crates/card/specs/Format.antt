@@ -1,6 +1,5 @@
 -- Document 01, section 7: what the records of a card say. Definitions only. Assumes nothing.
-use Rattle.std.specs.Prelude.{ℕ, ◌+◌, ◌*◌, ◌/◌, Bool, true, false, List, Float, length, eqb, leb, ltb}
-use Rattle.numbers.specs.Numbers.{if◌then◌else◌}
+use Rattle.std.specs.Prelude.{ℕ, ◌+◌, ◌*◌, ◌/◌, Bool, true, false, List, Float, length, eqb, leb, ltb, if◌then◌else◌}
 use Rattle.machines.specs.declared.VehicleState.{VehicleState}
 use Rattle.machines.specs.declared.ModeRefusal.TheVariants as reason
 use Rattle.joined.specs.declared.settings.Settings.{Settings}

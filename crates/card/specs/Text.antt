@@ -1,8 +1,7 @@
 -- Document 01, section 7: the lines of a transcript, as bytes (ASCII). Definitions only. Assumes nothing.
-use Rattle.std.specs.Prelude.{◌≡◌, ℕ, ◌+◌, ◌/◌, ◌%◌, List, [], ◌∷◌, ◌++◌, length, eqb, ltb}
+use Rattle.std.specs.Prelude.{◌≡◌, ℕ, ◌+◌, ◌/◌, ◌%◌, List, [], ◌∷◌, ◌++◌, length, eqb, ltb, if◌then◌else◌}
 use Rattle.std.proofs.Math.Option.{Option, some, none}
 use Rattle.std.proofs.lemmas.List.Edits.{sets}
-use Rattle.numbers.specs.Numbers.{if◌then◌else◌}
 use Rattle.joined.specs.Shown.{Shown, refused, line}
 
 -- words with a space (32) after each but the last, which a line feed (10) ends

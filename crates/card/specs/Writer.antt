@@ -1,7 +1,6 @@
 -- Document 02, request 2.1: the card of settings and a list of calls, and what a writing answers. Definitions only. Assumes nothing.
 -- A list stands with its last call first, as in joined, specs/List.antt. What each record holds: specs/Encoding.antt.
-use Rattle.std.specs.Prelude.{ℕ, ◌+◌, ◌*◌, ◌≡◌, List, [], ◌∷◌, ◌++◌, length, drop, ltb}
-use Rattle.numbers.specs.Numbers.{if◌then◌else◌}
+use Rattle.std.specs.Prelude.{ℕ, ◌+◌, ◌*◌, ◌≡◌, List, [], ◌∷◌, ◌++◌, length, drop, ltb, if◌then◌else◌}
 use Rattle.machines.specs.Refusals.{refusal_of, field_of}
 use Rattle.joined.specs.declared.settings.Settings.{Settings}
 use Rattle.joined.specs.declared.call.Call.{Call}

@@ -1,7 +1,6 @@
 // Either transition machine, with its own settings.
-ghost use Rattle.std.specs.Prelude.{◌≡◌};
+ghost use Rattle.std.specs.Prelude.{◌≡◌, if◌then◌else◌};
 ghost use Rattle.joined.specs.declared.machine.Airframe.TheVariants as airframe;
-ghost use Rattle.numbers.specs.Numbers.{if◌then◌else◌};
 ghost use Rattle.joined.specs.Machine.{new_machine_of, mode_of, prime_machine_of, set_machine_of, update_machine_of, cut_machine_of, handoff_time_of, roll_limit_of, transitioning, abs_of, past_roll_limit_of, of_transition, of_lift, accepted};
 
 use crate::call::StepInput;

@@ -1,8 +1,8 @@
 -- Document 02, request 2.3: the ranges of section 2 as a table, in the order of src/ranges.rt. "A row lets through exactly what section 2 lets through": the laws
 -- `tailsitter_ranges` and `quadplane_ranges` (proofs/Laws/RangeTable.antt). Definitions only. Assumes nothing.
-use Rattle.std.specs.Prelude.{Bool, true, false, ◌&&◌, List, [], ◌∷◌, ℕ, suc, ◌+◌, Float, get_or}
+use Rattle.std.specs.Prelude.{Bool, true, false, ◌&&◌, List, [], ◌∷◌, ℕ, suc, ◌+◌, Float, get_or, if◌then◌else◌}
 use Rattle.std.specs.Float.Ieee.{lt, le}
-use Rattle.numbers.specs.Numbers.{if◌then◌else◌, float_of}
+use Rattle.numbers.specs.Numbers.{float_of}
 use Rattle.machines.specs.declared.ranges.Range.{Range}
 use Rattle.machines.specs.Settings.{Test, field◌is◌}
 

@@ -1,7 +1,6 @@
 -- Document 01's numbers: section 9 for what the input brings (1 to 5), section 10 for what the state holds back; and which updates are turned down. Definitions only. Assumes nothing.
-use Rattle.std.specs.Prelude.{Bool, not, ℕ, Float}
+use Rattle.std.specs.Prelude.{Bool, not, ℕ, Float, if◌then◌else◌}
 use Rattle.std.proofs.Math.Option.{Option, some, none}
-use Rattle.numbers.specs.Numbers.{if◌then◌else◌}
 use Rattle.numbers.specs.Ranges.{positive}
 use Rattle.machines.specs.declared.ModeRefusal.{ModeRefusal}
 use Rattle.machines.specs.declared.ModeRefusal.TheVariants.{Unsupported, OnGround, BelowMinAltitude, TransitionTimeout, RollError, BelowPlaneMinAltitude}

@@ -1,6 +1,6 @@
 -- Document 01, section 2: the settings, and those of the split (section 8). Definitions only. Assumes nothing.
-use Rattle.std.specs.Prelude.{Bool, List, [], ◌∷◌, ℕ}
-use Rattle.numbers.specs.Numbers.{if◌then◌else◌, float_of, zero32}
+use Rattle.std.specs.Prelude.{Bool, List, [], ◌∷◌, ℕ, if◌then◌else◌}
+use Rattle.numbers.specs.Numbers.{float_of, zero32}
 use Rattle.numbers.specs.Ranges.{limit, positive, unit, unit_above_zero, quarter_turn, quarter_turn_closed, quarter_turn_from_zero, half_turn}
 use Rattle.machines.specs.declared.InputRefusal.{InputRefusal}
 use Rattle.machines.specs.declared.InputRefusal.TheVariants.{Setting}

@@ -1,9 +1,8 @@
 -- A decimal number as binary32, rounded once by IEEE 754's rule: to the nearest, a tie to the even one (law `nearest_decimal`, NearestFraction.antt). Definitions only. Assumes nothing.
 -- No sentence of document 01: for the program in which planners write decimals (document 02, 2.1; crates/writer).
-use Rattle.std.specs.Prelude.{false, ℕ, ◌^◌, leb}
+use Rattle.std.specs.Prelude.{false, ℕ, ◌^◌, leb, if◌then◌else◌}
 use Rattle.std.specs.Float.{binary32}
 use Rattle.std.specs.Float.Ieee.{round}
-use Rattle.numbers.specs.Numbers.{if◌then◌else◌}
 use Rattle.numbers.specs.declared.decimal.Decimal.{Decimal}
 use Rattle.numbers.specs.declared.decimal.Decimal.TheVariants.{Number, TooManyPlaces}
 

@@ -1,11 +1,12 @@
 -- The numbers of a card are binary32 values, whatever its bytes. Assumes nothing.
+use Rattle.std.specs.Prelude.{if◌then◌else◌}
 use mathlib.Core.Bool.{Bool, true, false}
 use mathlib.Core.List.{List, [], ◌∷◌}
 use Prim.Native.Nat.{ℕ, ◌+◌, ◌*◌}
 use lib.Dec.{eqb, leb}
 use lib.Ieee.{Float, binary32}
 use lib.Ieee.Bits.{of_bits-fits}
-use Rattle.numbers.specs.Numbers.{if◌then◌else◌, IsBinary32}
+use Rattle.numbers.specs.Numbers.{IsBinary32}
 use Rattle.machines.specs.declared.Airspeed.TheVariants as airspeed
 use Rattle.joined.specs.declared.call.Call.{Call}
 use Rattle.joined.specs.Calls.{settings_by, airspeed_of, vehicle_by, step_input_by}

@@ -1,11 +1,11 @@
 -- What several laws go by: the tests of a link and of a check, over any answers to them, and a case that cannot be. Assumes nothing.
+use Rattle.std.specs.Prelude.{if◌then◌else◌}
 use mathlib.Core.Path.{◌≡◌}
 use mathlib.Core.Bool.{Bool}
 use mathlib.Core.List.{List}
 use Prim.Native.Nat.{ℕ}
 use native.Mathlib.Omega.{arith}
 use lib.ListN.{length}
-use Rattle.numbers.specs.Numbers.{if◌then◌else◌}
 use Rattle.card.specs.Chain.{Chain, stopped, Outcome}
 use Rattle.card.specs.declared.refusal.CardRefusal.TheVariants as refusal
 use Rattle.card.specs.declared.chain.Checked.TheVariants as checked

@@ -1,10 +1,10 @@
 -- The header: the refusal of a making is document 01's 3, and a header that is not refused is a new joined machine with the card's settings. Assumes nothing.
+use Rattle.std.specs.Prelude.{if◌then◌else◌}
 use mathlib.Core.Path.{◌≡◌, refl}
 use mathlib.Core.Bool.{Bool, true, false}
 use mathlib.Core.List.{List}
 use Prim.Native.Nat.{ℕ}
 use lib.Dec.{T, eqb}
-use Rattle.numbers.specs.Numbers.{if◌then◌else◌}
 use Rattle.machines.specs.declared.InputRefusal.{InputRefusal}
 use Rattle.machines.specs.declared.InputRefusal.TheVariants.{TimeStep, EntryTilt, Setting, HandoffDuration, Tangent}
 use Rattle.machines.specs.Refusals.{refusal_of}

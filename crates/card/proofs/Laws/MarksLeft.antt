@@ -1,4 +1,5 @@
 -- The marks that a check leaves, byte by byte (document 01, section 9). Assumes nothing.
+use Rattle.std.specs.Prelude.{if◌then◌else◌}
 use mathlib.Core.Path.{◌≡◌, refl, sym, ap, ◌∙◌}
 use mathlib.Core.Bool.{Bool, true, false}
 use mathlib.Core.List.{List, [], ◌∷◌, ◌++◌}
@@ -8,7 +9,6 @@ use lib.Dec.{leb}
 use lib.ListN.{length, get_or, drop, replicate, length-append, length-drop, length-replicate, get_or-append}
 use lib.Seq.{get_or-set_same, get_or-set_other, get_or-append-add, get_or-drop}
 use borrow.Author.Tests.{leb-true}
-use Rattle.numbers.specs.Numbers.{if◌then◌else◌}
 use Rattle.card.specs.Bytes.{byte_at}
 use Rattle.card.specs.Format.{header_of}
 use Rattle.card.specs.Chain.{whole, records, member, chain_of, marked, outcome_by, outcome_of}

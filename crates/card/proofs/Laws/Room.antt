@@ -1,4 +1,5 @@
 -- How long a transcript can be: 32,000 bytes are room for any. Assumes nothing.
+use Rattle.std.specs.Prelude.{if◌then◌else◌}
 use mathlib.Core.Path.{◌≡◌, refl}
 use mathlib.Core.Bool.{Bool, true, false}
 use mathlib.Core.List.{List, [], ◌∷◌}
@@ -7,7 +8,7 @@ use Prim.Native.Nat.{ℕ, ◌+◌, ◌*◌, ◌/◌, ◌%◌, ◌<◌, ◌≤◌
 use native.Mathlib.Omega.{arith}
 use lib.Dec.{eqb, ltb}
 use lib.ListN.{length, length-append}
-use Rattle.numbers.specs.Numbers.{if◌then◌else◌, bits_of}
+use Rattle.numbers.specs.Numbers.{bits_of}
 use Rattle.machines.specs.Refusals.{refusal_of, field_of, report_of}
 use Rattle.joined.specs.declared.answer.Answer.{Answer}
 use Rattle.joined.specs.declared.answer.Answer.TheVariants as answer

@@ -1,5 +1,6 @@
 -- The walk along the links: what holds before each link, that it holds again after a record is passed, and what each stop shows.
 -- What is left of the chain, from here, is the whole card's chain; the links left are one more than the records not yet marked. Assumes nothing.
+use Rattle.std.specs.Prelude.{if◌then◌else◌}
 use mathlib.Core.Path.{◌≡◌, refl, sym, ap, ◌∙◌}
 use mathlib.Core.Bool.{Bool, true, false, ◌&&◌}
 use mathlib.Core.List.{List, [], ◌∷◌, ◌++◌}
@@ -10,7 +11,6 @@ use lib.Dec.{leb}
 use lib.ListN.{length, get_or, set, drop, length-set, get_or-append}
 use lib.Seq.{set-append_left}
 use borrow.Author.Tests.{eq-eqb, ne_eqb, le-leb, lt-leb, leb-true}
-use Rattle.numbers.specs.Numbers.{if◌then◌else◌}
 use Rattle.card.specs.Format.{next_at, record_at, is_known}
 use Rattle.card.specs.Chain.{records, whole, member, marked, Chain, stopped, follow, chain_of}
 use Rattle.card.specs.declared.refusal.CardRefusal.TheVariants as refusal

@@ -2,13 +2,14 @@
 -- stands beside its line, and the comment at its right says which sentence gives the numbers, and how. The numbers are sums of a few powers of two, π/2 or floats next to these, so that
 -- nothing is rounded; where a product or a sum is (2.2), the comment says so.
 -- Proved by working out the definitions: a change of definition and code together that changes one of these answers is refused here. Assumes nothing.
+use Rattle.std.specs.Prelude.{if◌then◌else◌}
 use mathlib.Core.Path.{◌≡◌, refl}
 use mathlib.Core.List.{List, [], ◌∷◌, ◌++◌, map}
 use mathlib.Core.Option.{some, none}
 use Prim.Native.Nat.{ℕ, zero, suc}
 use lib.Dec.{eqb}
 use lib.Ieee.{Float, nan, of_bits, to_bits, add, sub, mul, div, lt, le, eq, neg, is_nan}
-use Rattle.numbers.specs.Numbers.{if◌then◌else◌, float_of, zero32, one32, two32}
+use Rattle.numbers.specs.Numbers.{float_of, zero32, one32, two32}
 use Rattle.numbers.specs.Root.{root_of}
 use Rattle.machines.specs.declared.ModeRefusal.TheVariants.{Unsupported, OnGround}
 use Rattle.joined.specs.declared.settings.Settings.{Settings}

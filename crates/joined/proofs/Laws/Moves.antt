@@ -1,11 +1,12 @@
 -- The ways in which a call moves the joined machine between the modes, whatever the airframe: the edges of section 4's graph, each with what becomes of the gate, the clock and the
 -- ramp. They are the rows of section 4, taken apart by mode, request and what the airframe finds. Assumes nothing.
+use Rattle.std.specs.Prelude.{if◌then◌else◌}
 use mathlib.Core.Path.{◌≡◌, refl, sym, ap, ◌∙◌, subst}
 use mathlib.Core.Bool.{Bool, true, false, not, ◌&&◌}
 use lib.Dec.{T}
 use lib.Ieee.{Float}
 use lib.Ieee.Fits.{and_i}
-use Rattle.numbers.specs.Numbers.{if◌then◌else◌, ◌⊕◌, zero32}
+use Rattle.numbers.specs.Numbers.{◌⊕◌, zero32}
 use Rattle.machines.specs.declared.FlightMode.{FlightMode}
 use Rattle.machines.specs.declared.FlightMode.TheVariants as mode
 use Rattle.machines.specs.declared.FlightRegime.{FlightRegime}

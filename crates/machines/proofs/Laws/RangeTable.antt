@@ -1,5 +1,6 @@
 -- A row of the table lets through exactly what section 2 lets through, for every Float: the tests by the rows are section 2's own, field for field. A high end of +∞ that does not
 -- count says "finite", with NaN and both infinities outside; the other ranges are a row's two comparisons as they stand. Assumes nothing.
+use Rattle.std.specs.Prelude.{if◌then◌else◌}
 use mathlib.Core.Path.{◌≡◌, refl, ap, ◌∙◌}
 use mathlib.Core.Bool.{Bool, true, false, not, ◌&&◌, ◌||◌}
 use mathlib.Core.List.{List, [], ◌∷◌}
@@ -9,7 +10,7 @@ use lib.Dec.{T}
 use lib.ListN.{get_or, length, drop}
 use lib.Seq.{drop-cons}
 use lib.Ieee.{Float, nan, inf, fin, lt, le, of_bits}
-use Rattle.numbers.specs.Numbers.{if◌then◌else◌, zero32}
+use Rattle.numbers.specs.Numbers.{zero32}
 use Rattle.numbers.specs.Ranges.{limit, positive}
 use Rattle.numbers.proofs.Laws.Examples.{minus_zero}
 use Rattle.machines.specs.declared.InputRefusal.TheVariants.{Setting}

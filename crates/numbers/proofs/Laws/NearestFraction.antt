@@ -1,5 +1,6 @@
 -- The rounding of a fraction, where it is finite, is the binary32 number nearest to it, a tie to the even one; and so is the number that `of_decimal` gives for digits / 10 ^ places.
 -- Assumes nothing.
+use Rattle.std.specs.Prelude.{if◌then◌else◌}
 use mathlib.Core.Path.{◌≡◌, sym, ap, ap₂, ◌∙◌, subst}
 use mathlib.Core.Logic.{inl, inr}
 use mathlib.Core.Bool.{Bool, true, false}
@@ -17,7 +18,7 @@ use lib.Ieee.Nearest.{closest}
 use lib.Ieee.Scale.{grid}
 use Rattle.numbers.specs.Decimal.{of_decimal}
 use Rattle.numbers.specs.Nearest.{units, NoNearer, NearestFraction}
-use Rattle.numbers.specs.Numbers.{IsBinary32, if◌then◌else◌, finite, bits_of}
+use Rattle.numbers.specs.Numbers.{IsBinary32, finite, bits_of}
 use Rattle.numbers.specs.declared.decimal.Decimal.TheVariants.{Number, TooManyPlaces}
 use Rattle.numbers.proofs.Laws.Whole.{zero_times}
 use Rattle.numbers.proofs.Laws.Units.{finite_of_units, units_of_finite, units_top}

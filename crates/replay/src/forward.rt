@@ -11,42 +11,44 @@ use machines::quadplane::{forward_pitch_limit_rad, forward_pitch_rad};
 use machines::setpoint::{
     AttitudeSetpoint, BlendSetpoint, BodyRateSetpoint, PlaneSetpoint, RateSetpoint, Setpoint,
 };
+use std::io::Write;
 
 // Kind 40: a new split; a refused one leaves the one kept.
-fn new_split(b: &[u8; 80], before: ForwardThrust) -> ForwardThrust {
+fn new_split<W: Write>(stdout: &mut W, b: &[u8; 80], before: ForwardThrust) -> ForwardThrust {
     let made = ForwardThrust::new(settings::split(b));
     match made {
         NewForwardThrust::Forward(split) => {
-            show::flag(split.enabled(), END);
+            show::flag(stdout, split.enabled(), END);
             split
         }
         NewForwardThrust::Refused(why) => {
-            show::refused(why);
+            show::refused(stdout, why);
             before
         }
     }
 }
 
 // Kind 41: a pitch split.
-fn split(b: &[u8; 80], kept: ForwardThrust) {
+fn split<W: Write>(stdout: &mut W, b: &[u8; 80], kept: ForwardThrust) {
     let answer = kept.split(number(b, 1), number(b, 2));
     match answer {
         SplitAnswer::Split(parts) => {
-            show::number(parts.pitch_rad, SPACE);
-            show::number(parts.thrust, END);
+            show::number(stdout, parts.pitch_rad, SPACE);
+            show::number(stdout, parts.thrust, END);
         }
-        SplitAnswer::Refused(why) => show::refused(why),
+        SplitAnswer::Refused(why) => show::refused(stdout, why),
     }
 }
 
 // Kind 42: the pitch limit.
-fn limit(b: &[u8; 80]) {
+fn limit<W: Write>(stdout: &mut W, b: &[u8; 80]) {
     let rest = record::still();
     let state = VehicleState {
         velocity_mps: record::horizontal(b, 3, 4),
         ..rest
     };
     show::number(
+        stdout,
         forward_pitch_limit_rad(number(b, 1), number(b, 2), state),
         END,
     );
@@ -121,45 +123,45 @@ fn setpoint(b: &[u8; 80]) -> Setpoint {
 }
 
 // Kinds 40 and 41.
-fn thrust(b: &[u8; 80], before: ForwardThrust) -> ForwardThrust {
+fn thrust<W: Write>(stdout: &mut W, b: &[u8; 80], before: ForwardThrust) -> ForwardThrust {
     let kind = record::kind(b);
     match kind {
-        40 => new_split(b, before),
+        40 => new_split(stdout, b, before),
         _ => {
-            split(b, before);
+            split(stdout, b, before);
             before
         }
     }
 }
 
 // Kinds 40 to 45.
-pub(crate) fn call(b: &[u8; 80], k: Kept) -> Kept {
+pub(crate) fn call<W: Write>(stdout: &mut W, b: &[u8; 80], k: Kept) -> Kept {
     let kind = record::kind(b);
     match kind {
         40..=41 => {
             let before = k.split;
             Kept {
-                split: thrust(b, before),
+                split: thrust(stdout, b, before),
                 ..k
             }
         }
         42 => {
-            limit(b);
+            limit(stdout, b);
             k
         }
         43 => {
-            show::number(forward_pitch_rad(setpoint(b), number(b, 1)), END);
+            show::number(stdout, forward_pitch_rad(setpoint(b), number(b, 1)), END);
             k
         }
         44..=45 => {
             let before = k.hold;
             Kept {
-                hold: hold::call(b, before),
+                hold: hold::call(stdout, b, before),
                 ..k
             }
         }
         _ => {
-            show::unknown();
+            show::unknown(stdout);
             k
         }
     }

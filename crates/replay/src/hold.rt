@@ -8,6 +8,7 @@ use machines::control::{
 };
 use machines::hold::FallbackHold;
 use numbers::logic::{both, either};
+use std::io::Write;
 
 // The options of kind 45: an input 0 to 5, and 8 if fallen back; a waypoint's may have 16 and 32 too.
 pub(crate) fn has_option(option: u8) -> bool {
@@ -106,85 +107,106 @@ fn input(b: &[u8; 80]) -> ControlInput {
 }
 
 // An input of four numbers, after its option.
-fn show_four(option: u8, first: f32, second: f32, third: f32, fourth: f32) {
-    show::count(option, SPACE);
-    show::number(first, SPACE);
-    show::number(second, SPACE);
-    show::number(third, SPACE);
-    show::number(fourth, END);
+fn show_four<W: Write>(
+    stdout: &mut W,
+    option: u8,
+    first: f32,
+    second: f32,
+    third: f32,
+    fourth: f32,
+) {
+    show::count(stdout, option, SPACE);
+    show::number(stdout, first, SPACE);
+    show::number(stdout, second, SPACE);
+    show::number(stdout, third, SPACE);
+    show::number(stdout, fourth, END);
 }
 
 // A waypoint's velocity, if there is one.
-fn show_velocity(velocity: MaybeVelocity) {
+fn show_velocity<W: Write>(stdout: &mut W, velocity: MaybeVelocity) {
     match velocity {
-        MaybeVelocity::None => show::none(SPACE),
-        MaybeVelocity::Some(v) => show::vec2(v, SPACE),
+        MaybeVelocity::None => show::none(stdout, SPACE),
+        MaybeVelocity::Some(v) => show::vec2(stdout, v, SPACE),
     }
 }
 
 // A waypoint's heading, if there is one.
-fn show_heading(heading: MaybeHeading) {
+fn show_heading<W: Write>(stdout: &mut W, heading: MaybeHeading) {
     match heading {
-        MaybeHeading::None => show::none(END),
-        MaybeHeading::Some(x) => show::number(x, END),
+        MaybeHeading::None => show::none(stdout, END),
+        MaybeHeading::Some(x) => show::number(stdout, x, END),
     }
 }
 
 // A waypoint, after its option.
-fn show_waypoint(w: WaypointCommand) {
+fn show_waypoint<W: Write>(stdout: &mut W, w: WaypointCommand) {
     let position = w.position_m;
     let velocity = w.velocity_mps;
     let heading = w.heading_rad;
-    show::count(2, SPACE);
-    show::vec2(position, SPACE);
-    show_velocity(velocity);
-    show::number(w.altitude_m, SPACE);
-    show::number(w.cruise_speed_mps, SPACE);
-    show_heading(heading);
+    show::count(stdout, 2, SPACE);
+    show::vec2(stdout, position, SPACE);
+    show_velocity(stdout, velocity);
+    show::number(stdout, w.altitude_m, SPACE);
+    show::number(stdout, w.cruise_speed_mps, SPACE);
+    show_heading(stdout, heading);
 }
 
 // A landing, after its option.
-fn show_land(l: LandCommand) {
+fn show_land<W: Write>(stdout: &mut W, l: LandCommand) {
     let position = l.position_m;
-    show::count(4, SPACE);
-    show::vec2(position, END);
+    show::count(stdout, 4, SPACE);
+    show::vec2(stdout, position, END);
 }
 
 // The input's option, then its numbers.
-fn show_input(i: ControlInput) {
+fn show_input<W: Write>(stdout: &mut W, i: ControlInput) {
     match i {
-        ControlInput::Attitude(a) => show_four(0, a.throttle, a.roll, a.pitch, a.yaw),
-        ControlInput::Rate(r) => show_four(1, r.throttle, r.roll_rate, r.pitch_rate, r.yaw_rate),
-        ControlInput::Waypoint(w) => show_waypoint(w),
+        ControlInput::Attitude(a) => show_four(stdout, 0, a.throttle, a.roll, a.pitch, a.yaw),
+        ControlInput::Rate(r) => show_four(
+            stdout,
+            1,
+            r.throttle,
+            r.roll_rate,
+            r.pitch_rate,
+            r.yaw_rate,
+        ),
+        ControlInput::Waypoint(w) => show_waypoint(stdout, w),
         ControlInput::AbsoluteAttitude(a) => {
-            show_four(3, a.roll_rad, a.pitch_rad, a.heading_rad, a.thrust)
+            show_four(stdout, 3, a.roll_rad, a.pitch_rad, a.heading_rad, a.thrust)
         }
-        ControlInput::Land(l) => show_land(l),
+        ControlInput::Land(l) => show_land(stdout, l),
         ControlInput::AbsoluteRate(r) => {
-            show_four(5, r.roll_radps, r.pitch_radps, r.yaw_radps, r.thrust)
+            show_four(
+                stdout,
+                5,
+                r.roll_radps,
+                r.pitch_radps,
+                r.yaw_radps,
+                r.thrust,
+            )
         }
     }
 }
 
 // Kind 44: a new hold.
-fn new_hold() -> FallbackHold {
-    show::none(END);
+fn new_hold<W: Write>(stdout: &mut W) -> FallbackHold {
+    show::none(stdout, END);
     FallbackHold::new()
 }
 
 // Kind 45: the input to fly.
-fn flown(b: &[u8; 80], before: FallbackHold) -> FallbackHold {
+fn flown<W: Write>(stdout: &mut W, b: &[u8; 80], before: FallbackHold) -> FallbackHold {
     let after = before.input(has_flag(b, 8), input(b), record::vec3(b, 1, 2, 3));
     let flown = after.input;
-    show_input(flown);
+    show_input(stdout, flown);
     after.hold
 }
 
 // Kinds 44 and 45.
-pub(crate) fn call(b: &[u8; 80], before: FallbackHold) -> FallbackHold {
+pub(crate) fn call<W: Write>(stdout: &mut W, b: &[u8; 80], before: FallbackHold) -> FallbackHold {
     let kind = record::kind(b);
     match kind {
-        44 => new_hold(),
-        _ => flown(b, before),
+        44 => new_hold(stdout),
+        _ => flown(stdout, b, before),
     }
 }

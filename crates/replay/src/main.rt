@@ -14,8 +14,8 @@ mod thrust;
 mod values;
 
 use kept::Kept;
-use libc::STDIN_FILENO;
 use numbers::logic::both;
+use std::io::{Read, Write};
 
 // What is kept after a record, and whether there was a whole one.
 #[derive(Clone, Copy)]
@@ -40,28 +40,28 @@ fn has_option(kind: u8, option: u8) -> bool {
 
 // The call of a record, by the section of its kind: its line, and what is kept after it. A section says "unknown" to a kind that it has not,
 // and the last one has all the kinds above.
-fn call(b: &[u8; 80], k: Kept) -> Kept {
+fn call<W: Write>(stdout: &mut W, b: &[u8; 80], k: Kept) -> Kept {
     let kind = record::kind(b);
     match kind {
         0..=19 => {
-            values::call(b);
+            values::call(stdout, b);
             k
         }
         20..=29 => {
-            settings::call(b);
+            settings::call(stdout, b);
             k
         }
-        30..=39 => thrust::call(b, k),
-        40..=49 => forward::call(b, k),
-        50..=59 => tailsitter::call(b, k),
-        _ => quadplane::call(b, k),
+        30..=39 => thrust::call(stdout, b, k),
+        40..=49 => forward::call(stdout, b, k),
+        50..=59 => tailsitter::call(stdout, b, k),
+        _ => quadplane::call(stdout, b, k),
     }
 }
 
 // Reads a record and makes its call.
-fn take_record(k: Kept) -> Turn {
+fn take_record<R: Read, W: Write>(stdin: &mut R, stdout: &mut W, k: Kept) -> Turn {
     let mut b = [0u8; 80];
-    let got = io::read_full(STDIN_FILENO, &mut b);
+    let got = streams::read_full(stdin, &mut b);
     if got < 80 {
         return Turn {
             kept: k,
@@ -70,11 +70,11 @@ fn take_record(k: Kept) -> Turn {
     }
     if has_option(record::kind(&b), record::option(&b)) {
         Turn {
-            kept: call(&b, k),
+            kept: call(stdout, &b, k),
             more: true,
         }
     } else {
-        show::unknown();
+        show::unknown(stdout);
         Turn {
             kept: k,
             more: true,
@@ -83,16 +83,16 @@ fn take_record(k: Kept) -> Turn {
 }
 
 // Takes the records one after the other. A proved loop has to end, and nothing says that the input does,
-// so it counts its turns down from a number that no run uses up.
-fn main() {
-    let mut turns = u64::MAX;
+// so it counts its turns up to a number that no run reaches.
+fn main(rt: HostRuntime) {
+    let mut stdin = rt.stdin();
+    let mut stdout = rt.stdout();
     let mut k = kept::start();
-    while turns > 0 {
-        let t = take_record(k);
+    for _ in 0..u64::MAX {
+        let t = take_record(&mut stdin, &mut stdout, k);
         if !t.more {
             return;
         }
         k = t.kept;
-        turns -= 1;
     }
 }

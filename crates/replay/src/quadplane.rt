@@ -4,17 +4,18 @@ use crate::record::number;
 use crate::show::END;
 use crate::{record, settings, show};
 use machines::lift::{LiftTransition, LiftTransitionUpdate, NewLiftTransition};
+use std::io::Write;
 
 // Kind 60: a new machine; a refused one leaves the one kept.
-fn new(b: &[u8; 80], before: LiftTransition) -> LiftTransition {
+fn new<W: Write>(stdout: &mut W, b: &[u8; 80], before: LiftTransition) -> LiftTransition {
     let made = LiftTransition::new(settings::quadplane(b));
     match made {
         NewLiftTransition::Machine(machine) => {
-            show::word(b"new", END);
+            show::word(stdout, b"new", END);
             machine
         }
         NewLiftTransition::Refused(why) => {
-            show::refused(why);
+            show::refused(stdout, why);
             before
         }
     }
@@ -32,22 +33,22 @@ fn update(b: &[u8; 80], before: LiftTransition) -> LiftTransitionUpdate {
 }
 
 // Kinds 61 to 64.
-fn updated(b: &[u8; 80], before: LiftTransition) -> LiftTransition {
+fn updated<W: Write>(stdout: &mut W, b: &[u8; 80], before: LiftTransition) -> LiftTransition {
     let after = update(b, before);
     let answer = after.answer;
-    show::answer(answer);
+    show::answer(stdout, answer);
     after.machine
 }
 
 // Kinds 60 to 64, with what is kept.
-pub(crate) fn call(b: &[u8; 80], k: Kept) -> Kept {
+pub(crate) fn call<W: Write>(stdout: &mut W, b: &[u8; 80], k: Kept) -> Kept {
     let kind = record::kind(b);
     let before = k.quadplane;
     let quadplane = match kind {
-        60 => new(b, before),
-        61..=64 => updated(b, before),
+        60 => new(stdout, b, before),
+        61..=64 => updated(stdout, b, before),
         _ => {
-            show::unknown();
+            show::unknown(stdout);
             before
         }
     };

@@ -3,6 +3,7 @@ use crate::record::number;
 use crate::show::{END, SPACE};
 use crate::{record, show};
 use machines::settings::{ForwardThrustConfig, LiftTransitionConfig, TransitionConfig, Validity};
+use std::io::Write;
 
 // The tailsitter's settings, numbers 1 to 17.
 pub(crate) fn tailsitter(b: &[u8; 80]) -> TransitionConfig {
@@ -57,69 +58,69 @@ pub(crate) fn split(b: &[u8; 80]) -> ForwardThrustConfig {
 }
 
 // The first bad field, or 0; or the refusal of another test.
-fn validity(v: Validity) {
+fn validity<W: Write>(stdout: &mut W, v: Validity) {
     match v {
-        Validity::Valid => show::count(0, END),
+        Validity::Valid => show::count(stdout, 0, END),
         Validity::Bad(why) => {
             let field = why.field();
             if field > 0 {
-                show::count(field, END);
+                show::count(stdout, field, END);
             } else {
-                show::refused(why);
+                show::refused(stdout, why);
             }
         }
     }
 }
 
 // Kind 23: the tailsitter's default settings 1 to 15.
-fn tailsitter_defaults() {
+fn tailsitter_defaults<W: Write>(stdout: &mut W) {
     let c = TransitionConfig::defaults();
-    show::number(c.forward_rate_radps, SPACE);
-    show::number(c.forward_done_rad, SPACE);
-    show::number(c.forward_max_tilt_rad, SPACE);
-    show::number(c.min_airspeed_mps, SPACE);
-    show::number(c.back_rate_radps, SPACE);
-    show::number(c.back_done_rad, SPACE);
-    show::number(c.timeout_s, SPACE);
-    show::number(c.min_height_m, SPACE);
-    show::number(c.plane_min_height_m, SPACE);
-    show::number(c.forward_thrust, SPACE);
-    show::number(c.back_thrust, SPACE);
-    show::number(c.back_sink_limit_mps, SPACE);
-    show::number(c.back_sink_gain, SPACE);
-    show::number(c.handoff_s, SPACE);
-    show::number(c.roll_limit_rad, END);
+    show::number(stdout, c.forward_rate_radps, SPACE);
+    show::number(stdout, c.forward_done_rad, SPACE);
+    show::number(stdout, c.forward_max_tilt_rad, SPACE);
+    show::number(stdout, c.min_airspeed_mps, SPACE);
+    show::number(stdout, c.back_rate_radps, SPACE);
+    show::number(stdout, c.back_done_rad, SPACE);
+    show::number(stdout, c.timeout_s, SPACE);
+    show::number(stdout, c.min_height_m, SPACE);
+    show::number(stdout, c.plane_min_height_m, SPACE);
+    show::number(stdout, c.forward_thrust, SPACE);
+    show::number(stdout, c.back_thrust, SPACE);
+    show::number(stdout, c.back_sink_limit_mps, SPACE);
+    show::number(stdout, c.back_sink_gain, SPACE);
+    show::number(stdout, c.handoff_s, SPACE);
+    show::number(stdout, c.roll_limit_rad, END);
 }
 
 // Kind 24: the quadplane's default settings.
-fn quadplane_defaults() {
+fn quadplane_defaults<W: Write>(stdout: &mut W) {
     let c = LiftTransitionConfig::defaults();
-    show::number(c.min_airspeed_mps, SPACE);
-    show::number(c.lift_ramp_s, SPACE);
-    show::number(c.timeout_s, SPACE);
-    show::number(c.min_height_m, SPACE);
-    show::number(c.plane_min_height_m, SPACE);
-    show::number(c.back_ramp_s, SPACE);
-    show::number(c.back_speed_mps, SPACE);
-    show::number(c.back_timeout_s, SPACE);
-    show::number(c.back_decel_mps2, SPACE);
-    show::number(c.back_decel_i, SPACE);
-    show::number(c.forward_thrust, SPACE);
-    show::number(c.pusher_slew_per_s, SPACE);
-    show::number(c.forward_pitch_max_rad, SPACE);
-    show::number(c.handoff_s, SPACE);
-    show::number(c.roll_limit_rad, END);
+    show::number(stdout, c.min_airspeed_mps, SPACE);
+    show::number(stdout, c.lift_ramp_s, SPACE);
+    show::number(stdout, c.timeout_s, SPACE);
+    show::number(stdout, c.min_height_m, SPACE);
+    show::number(stdout, c.plane_min_height_m, SPACE);
+    show::number(stdout, c.back_ramp_s, SPACE);
+    show::number(stdout, c.back_speed_mps, SPACE);
+    show::number(stdout, c.back_timeout_s, SPACE);
+    show::number(stdout, c.back_decel_mps2, SPACE);
+    show::number(stdout, c.back_decel_i, SPACE);
+    show::number(stdout, c.forward_thrust, SPACE);
+    show::number(stdout, c.pusher_slew_per_s, SPACE);
+    show::number(stdout, c.forward_pitch_max_rad, SPACE);
+    show::number(stdout, c.handoff_s, SPACE);
+    show::number(stdout, c.roll_limit_rad, END);
 }
 
 // Kinds 20 to 24.
-pub(crate) fn call(b: &[u8; 80]) {
+pub(crate) fn call<W: Write>(stdout: &mut W, b: &[u8; 80]) {
     let kind = record::kind(b);
     match kind {
-        20 => validity(tailsitter(b).validate()),
-        21 => validity(quadplane(b).validate()),
-        22 => validity(split(b).validate()),
-        23 => tailsitter_defaults(),
-        24 => quadplane_defaults(),
-        _ => show::unknown(),
+        20 => validity(stdout, tailsitter(b).validate()),
+        21 => validity(stdout, quadplane(b).validate()),
+        22 => validity(stdout, split(b).validate()),
+        23 => tailsitter_defaults(stdout),
+        24 => quadplane_defaults(stdout),
+        _ => show::unknown(stdout),
     }
 }

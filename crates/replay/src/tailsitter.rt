@@ -4,17 +4,18 @@ use crate::record::number;
 use crate::show::END;
 use crate::{record, settings, show};
 use machines::vtol::{NewTransition, Transition, TransitionUpdate};
+use std::io::Write;
 
 // Kind 50: a new machine; a refused one leaves the one kept.
-fn new(b: &[u8; 80], before: Transition) -> Transition {
+fn new<W: Write>(stdout: &mut W, b: &[u8; 80], before: Transition) -> Transition {
     let made = Transition::new(settings::tailsitter(b));
     match made {
         NewTransition::Machine(machine) => {
-            show::word(b"new", END);
+            show::word(stdout, b"new", END);
             machine
         }
         NewTransition::Refused(why) => {
-            show::refused(why);
+            show::refused(stdout, why);
             before
         }
     }
@@ -37,22 +38,22 @@ fn update(b: &[u8; 80], before: Transition) -> TransitionUpdate {
 }
 
 // Kinds 51 to 54.
-fn updated(b: &[u8; 80], before: Transition) -> Transition {
+fn updated<W: Write>(stdout: &mut W, b: &[u8; 80], before: Transition) -> Transition {
     let after = update(b, before);
     let answer = after.answer;
-    show::answer(answer);
+    show::answer(stdout, answer);
     after.machine
 }
 
 // Kinds 50 to 54, with what is kept.
-pub(crate) fn call(b: &[u8; 80], k: Kept) -> Kept {
+pub(crate) fn call<W: Write>(stdout: &mut W, b: &[u8; 80], k: Kept) -> Kept {
     let kind = record::kind(b);
     let before = k.tailsitter;
     let tailsitter = match kind {
-        50 => new(b, before),
-        51..=54 => updated(b, before),
+        50 => new(stdout, b, before),
+        51..=54 => updated(stdout, b, before),
         _ => {
-            show::unknown();
+            show::unknown(stdout);
             before
         }
     };

@@ -5,6 +5,7 @@ use crate::{record, show};
 use machines::{AirspeedReading, VehicleState};
 use numbers::math;
 use numbers::root::root;
+use std::io::Write;
 
 // Kinds 1 to 3: the root, the norm and the dot product.
 fn root_or_product(b: &[u8; 80], kind: u8) -> f32 {
@@ -16,12 +17,12 @@ fn root_or_product(b: &[u8; 80], kind: u8) -> f32 {
 }
 
 // Kind 4: the rotated vector.
-fn rotation(b: &[u8; 80]) {
+fn rotation<W: Write>(stdout: &mut W, b: &[u8; 80]) {
     let attitude = record::quaternion(b, 1, 2, 3, 4);
     let v = attitude.rotate(record::vec3(b, 5, 6, 7));
-    show::number(v.x, SPACE);
-    show::number(v.y, SPACE);
-    show::number(v.z, END);
+    show::number(stdout, v.x, SPACE);
+    show::number(stdout, v.y, SPACE);
+    show::number(stdout, v.z, END);
 }
 
 // Kinds 5 and 6: what the attitude says of the nose.
@@ -46,7 +47,7 @@ fn clamped(b: &[u8; 80], kind: u8) -> f32 {
 }
 
 // Kind 13: the valid airspeed, if there is one.
-fn airspeed(b: &[u8; 80]) {
+fn airspeed<W: Write>(stdout: &mut W, b: &[u8; 80]) {
     let rest = record::still();
     let state = VehicleState {
         airspeed: record::airspeed(b, 1, record::option(b) == 1),
@@ -54,20 +55,20 @@ fn airspeed(b: &[u8; 80]) {
     };
     let reading = state.valid_airspeed_mps();
     match reading {
-        AirspeedReading::None => show::none(END),
-        AirspeedReading::Valid(airspeed_mps) => show::number(airspeed_mps, END),
+        AirspeedReading::None => show::none(stdout, END),
+        AirspeedReading::Valid(airspeed_mps) => show::number(stdout, airspeed_mps, END),
     }
 }
 
 // Kinds 1 to 13.
-pub(crate) fn call(b: &[u8; 80]) {
+pub(crate) fn call<W: Write>(stdout: &mut W, b: &[u8; 80]) {
     let kind = record::kind(b);
     match kind {
-        1..=3 => show::number(root_or_product(b, kind), END),
-        4 => rotation(b),
-        5..=6 => show::number(nose_of(b, kind), END),
-        7..=12 => show::number(clamped(b, kind), END),
-        13 => airspeed(b),
-        _ => show::unknown(),
+        1..=3 => show::number(stdout, root_or_product(b, kind), END),
+        4 => rotation(stdout, b),
+        5..=6 => show::number(stdout, nose_of(b, kind), END),
+        7..=12 => show::number(stdout, clamped(b, kind), END),
+        13 => airspeed(stdout, b),
+        _ => show::unknown(stdout),
     }
 }

@@ -12,8 +12,8 @@ ghost use Rattle.joined.specs.Joined.{step_of};
 use joined::call::StepInput;
 use joined::joined::{Joined, JoinedUpdate, NewJoined};
 use joined::machine::Airframe;
-use libc::STDIN_FILENO;
 use record::number;
+use std::io::{Read, Write};
 
 // The machine after a record, and whether there was a whole one.
 #[derive(Clone, Copy)]
@@ -43,10 +43,10 @@ fn called(b: &[u8; 80], before: Joined) -> JoinedUpdate {
 }
 
 // Makes the call of a record and writes its line.
-fn call(b: &[u8; 80], before: Joined) -> Joined {
+fn call<W: Write>(stdout: &mut W, b: &[u8; 80], before: Joined) -> Joined {
     let update = called(b, before);
     let answer = update.answer;
-    show::answer(answer);
+    show::answer(stdout, answer);
     update.joined
 }
 
@@ -60,67 +60,67 @@ fn made(b: &[u8; 80]) -> NewJoined {
 }
 
 // Makes the machine of a header and writes its line.
-fn new(b: &[u8; 80], before: Joined) -> Joined {
+fn new<W: Write>(stdout: &mut W, b: &[u8; 80], before: Joined) -> Joined {
     let new = made(b);
     match new {
         NewJoined::Joined(joined) => {
-            show::new();
+            show::new(stdout);
             joined
         }
         NewJoined::Refused(why) => {
-            show::refused(why);
+            show::refused(stdout, why);
             before
         }
     }
 }
 
 // Reads a record and makes its call.
-fn take_record(before: Joined) -> Turn {
+fn take_record<R: Read, W: Write>(stdin: &mut R, stdout: &mut W, before: Joined) -> Turn {
     let mut b = [0u8; 80];
-    if io::read_full(STDIN_FILENO, &mut b) < 80 {
+    if streams::read_full(stdin, &mut b) < 80 {
         return Turn {
             joined: before,
             more: false,
         };
     }
     let joined = if record::kind(&b) >= 5 {
-        new(&b, before)
+        new(stdout, &b, before)
     } else {
-        call(&b, before)
+        call(stdout, &b, before)
     };
     Turn { joined, more: true }
 }
 
 // Takes the records one after the other. A proved loop has to end, and nothing says that the input does,
-// so it counts its turns down from a number that no run uses up.
-fn take_records(first: Joined) {
-    let mut turns = u64::MAX;
+// so it counts its turns up to a number that no run reaches.
+fn take_records<R: Read, W: Write>(stdin: &mut R, stdout: &mut W, first: Joined) {
     let mut joined = first;
-    while turns > 0 {
-        let turn = take_record(joined);
+    for _ in 0..u64::MAX {
+        let turn = take_record(stdin, stdout, joined);
         if !turn.more {
             return;
         }
         joined = turn.joined;
-        turns -= 1;
     }
 }
 
 // Begins with the machine of the first header.
-fn begin(b: &[u8; 80]) {
+fn begin<R: Read, W: Write>(stdin: &mut R, stdout: &mut W, b: &[u8; 80]) {
     let first = made(b);
     match first {
         NewJoined::Joined(joined) => {
-            show::new();
-            take_records(joined);
+            show::new(stdout);
+            take_records(stdin, stdout, joined);
         }
-        NewJoined::Refused(why) => show::refused(why),
+        NewJoined::Refused(why) => show::refused(stdout, why),
     }
 }
 
-fn main() {
+fn main(rt: HostRuntime) {
+    let mut stdin = rt.stdin();
+    let mut stdout = rt.stdout();
     let mut b = [0u8; 80];
-    if io::read_full(STDIN_FILENO, &mut b) == 80 {
-        begin(&b);
+    if streams::read_full(&mut stdin, &mut b) == 80 {
+        begin(&mut stdin, &mut stdout, &b);
     }
 }

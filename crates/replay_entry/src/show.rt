@@ -1,86 +1,86 @@
 // The words of a line, each with what stands after it: a space, or the line's end.
 use joined::answer::{Answer, Line, letter};
-use libc::STDOUT_FILENO;
 use machines::InputRefusal;
 use machines::answer::{ShareOrTilt, TiltTarget};
 use numbers::bits::to_bits;
+use std::io::Write;
 
 // One byte.
-fn byte(first: u8, after: u8) {
-    io::write_all(STDOUT_FILENO, &[first, after]);
+fn byte<W: Write>(stdout: &mut W, first: u8, after: u8) {
+    streams::write_all(stdout, &[first, after]);
 }
 
 // A number's bits.
-fn number(x: f32, after: u8) {
-    io::print_hex(STDOUT_FILENO, to_bits(x) as u64, 8);
-    io::write_all(STDOUT_FILENO, &[after]);
+fn number<W: Write>(stdout: &mut W, x: f32, after: u8) {
+    streams::print_hex(stdout, to_bits(x) as u64, 8);
+    streams::write_all(stdout, &[after]);
 }
 
 // A report, a refusal's number or a field.
-fn count(n: u8, after: u8) {
-    io::print_decimal(STDOUT_FILENO, n as u64);
-    io::write_all(STDOUT_FILENO, &[after]);
+fn count<W: Write>(stdout: &mut W, n: u8, after: u8) {
+    streams::print_decimal(stdout, n as u64);
+    streams::write_all(stdout, &[after]);
 }
 
 // A flag, 0 or 1.
-fn flag(on: bool, after: u8) {
+fn flag<W: Write>(stdout: &mut W, on: bool, after: u8) {
     if on {
-        byte(b'1', after);
+        byte(stdout, b'1', after);
     } else {
-        byte(b'0', after);
+        byte(stdout, b'0', after);
     }
 }
 
 // The line of a header that is taken.
-pub(crate) fn new() {
-    io::write_all(STDOUT_FILENO, b"new\n");
+pub(crate) fn new<W: Write>(stdout: &mut W) {
+    streams::write_all(stdout, b"new\n");
 }
 
 // The line of a call that is turned down: a setting's has the field too.
-pub(crate) fn refused(why: InputRefusal) {
+pub(crate) fn refused<W: Write>(stdout: &mut W, why: InputRefusal) {
     let n = why.number();
-    io::write_all(STDOUT_FILENO, b"refused ");
+    streams::write_all(stdout, b"refused ");
     if n == 3 {
-        count(n, b' ');
-        count(why.field(), b'\n');
+        count(stdout, n, b' ');
+        count(stdout, why.field(), b'\n');
     } else {
-        count(n, b'\n');
+        count(stdout, n, b'\n');
     }
 }
 
 // A tilt if there is one.
-fn tilt(target: TiltTarget, after: u8) {
+fn tilt<W: Write>(stdout: &mut W, target: TiltTarget, after: u8) {
     match target {
-        TiltTarget::None => byte(b'-', after),
-        TiltTarget::Tilt(x) => number(x, after),
+        TiltTarget::None => byte(stdout, b'-', after),
+        TiltTarget::Tilt(x) => number(stdout, x, after),
     }
 }
 
 // A share, or a tilt.
-fn share_or_tilt(output: ShareOrTilt, after: u8) {
+fn share_or_tilt<W: Write>(stdout: &mut W, output: ShareOrTilt, after: u8) {
     match output {
-        ShareOrTilt::Share(x) => number(x, after),
-        ShareOrTilt::Tilt(target) => tilt(target, after),
+        ShareOrTilt::Share(x) => number(stdout, x, after),
+        ShareOrTilt::Tilt(target) => tilt(stdout, target, after),
     }
 }
 
 // Mode, share or tilt, handoff flag, report, thrust and pitch.
-fn line(l: Line) {
+fn line<W: Write>(stdout: &mut W, l: Line) {
     let mode = l.mode;
     let output = l.output;
     let report = l.report;
-    byte(letter(mode), b' ');
-    share_or_tilt(output, b' ');
-    flag(l.handoff, b' ');
-    count(report.number(), b' ');
-    number(l.thrust, b' ');
-    number(l.pitch_rad, b'\n');
+    byte(stdout, letter(mode), b' ');
+    share_or_tilt(stdout, output, b' ');
+    flag(stdout, l.handoff, b' ');
+    count(stdout, report.number(), b' ');
+    number(stdout, l.thrust, b' ');
+    number(stdout, l.pitch_rad, b'\n');
 }
 
 // The line of an answer.
-pub(crate) fn answer(a: Answer) {
+pub(crate) fn answer<W: Write>(stdout: &mut W, a: Answer) {
     match a {
-        Answer::Refused(why) => refused(why),
-        Answer::Line(l) => line(l),
+        Answer::Refused(why) => refused(stdout, why),
+        Answer::Line(l) => line(stdout, l),
     }
 }

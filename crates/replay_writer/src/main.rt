@@ -11,13 +11,13 @@ use card::write::{Wrote, write};
 use joined::call::Call;
 use joined::machine::Airframe;
 use joined::settings::Settings;
-use libc::{STDIN_FILENO, STDOUT_FILENO};
 use numbers::bits::from_le_bytes;
+use std::io::{Read, Write};
 
 // The next of the numbers before a list; 0 at the end of the input.
-fn next_number() -> u32 {
+fn next_number<R: Read>(stdin: &mut R) -> u32 {
     let mut b = [0u8; 4];
-    io::read_full(STDIN_FILENO, &mut b);
+    streams::read_full(stdin, &mut b);
     from_le_bytes(b[0], b[1], b[2], b[3])
 }
 
@@ -29,28 +29,28 @@ fn lent_bytes() -> [u8; 65536]
 }
 
 // Writes a refusal: its number, and the field after a 3.
-fn print_refusal(number: u8, field: u8) {
-    io::write_all(STDOUT_FILENO, b"refused ");
-    io::print_decimal(STDOUT_FILENO, number as u64);
+fn print_refusal<W: Write>(stdout: &mut W, number: u8, field: u8) {
+    streams::write_all(stdout, b"refused ");
+    streams::print_decimal(stdout, number as u64);
     if number == 3 {
-        io::write_all(STDOUT_FILENO, b" ");
-        io::print_decimal(STDOUT_FILENO, field as u64);
+        streams::write_all(stdout, b" ");
+        streams::print_decimal(stdout, field as u64);
     }
 }
 
 // Writes how many bytes a card has.
-fn print_length(length: usize) {
-    io::write_all(STDOUT_FILENO, b"wrote ");
-    io::print_decimal(STDOUT_FILENO, length as u64);
+fn print_length<W: Write>(stdout: &mut W, length: usize) {
+    streams::write_all(stdout, b"wrote ");
+    streams::print_decimal(stdout, length as u64);
 }
 
 // Writes the line of an answer.
-fn print_wrote(wrote: Wrote) {
+fn print_wrote<W: Write>(stdout: &mut W, wrote: Wrote) {
     match wrote {
-        Wrote::Card(length) => print_length(length),
-        Wrote::Refused(why) => print_refusal(why.number(), why.field()),
+        Wrote::Card(length) => print_length(stdout, length),
+        Wrote::Refused(why) => print_refusal(stdout, why.number(), why.field()),
     }
-    io::write_all(STDOUT_FILENO, b"\n");
+    streams::write_all(stdout, b"\n");
 }
 
 // The airframe of a header's kind.
@@ -71,7 +71,8 @@ fn call_of(b: &[u8; 80]) -> Call {
 }
 
 // Writes the card of a list to the lent bytes, and shows the answer and these bytes.
-fn write_card(
+fn write_card<W: Write>(
+    stdout: &mut W,
     airframe: Airframe,
     settings: Settings,
     calls: [Call; 799],
@@ -79,42 +80,55 @@ fn write_card(
     lent: &mut [u8],
 ) {
     let wrote = write(airframe, settings, calls, count, lent);
-    print_wrote(wrote);
-    io::write_all(STDOUT_FILENO, lent);
+    print_wrote(stdout, wrote);
+    streams::write_all(stdout, lent);
 }
 
 // Lends so many bytes for a list.
-fn lend(airframe: Airframe, settings: Settings, calls: [Call; 799], count: usize, room: isize) {
+fn lend<W: Write>(
+    stdout: &mut W,
+    airframe: Airframe,
+    settings: Settings,
+    calls: [Call; 799],
+    count: usize,
+    room: isize,
+) {
     let mut lent = lent_bytes();
-    let n = io::count(room, &lent);
-    write_card(airframe, settings, calls, count, &mut lent[..n]);
+    let n = streams::count(room, &lent);
+    write_card(stdout, airframe, settings, calls, count, &mut lent[..n]);
 }
 
 // The next of the given calls.
-fn next_call() -> Call {
+fn next_call<R: Read>(stdin: &mut R) -> Call {
     let mut b = [0u8; 80];
-    io::read_full(STDIN_FILENO, &mut b);
+    streams::read_full(stdin, &mut b);
     call_of(&b)
 }
 
 // Reads the given calls and writes the list.
-fn take_calls(airframe: Airframe, settings: Settings, count: usize, room: isize, given: usize) {
+fn take_calls<R: Read, W: Write>(
+    stdin: &mut R,
+    stdout: &mut W,
+    airframe: Airframe,
+    settings: Settings,
+    count: usize,
+    room: isize,
+    given: usize,
+) {
     let mut calls = [Call::Prime(0.0); 799];
-    let mut i: usize = 0;
-    while i < 799 && i < given {
-        calls[i] = next_call();
-        i += 1;
+    for i in 0..given.min(799) {
+        calls[i] = next_call(stdin);
     }
-    lend(airframe, settings, calls, count, room);
+    lend(stdout, airframe, settings, calls, count, room);
 }
 
 // Takes the next list, and answers whether there was one. A header's settings are read as those of a settings call, kind 4 with option 0.
-fn take_list() -> bool {
-    let count = next_number();
-    let room = next_number();
-    let given = next_number();
+fn take_list<R: Read, W: Write>(stdin: &mut R, stdout: &mut W) -> bool {
+    let count = next_number(stdin);
+    let room = next_number(stdin);
+    let given = next_number(stdin);
     let mut header = [0u8; 80];
-    if io::read_full(STDIN_FILENO, &mut header) < 80 {
+    if streams::read_full(stdin, &mut header) < 80 {
         return false;
     }
     let airframe = airframe_of(header[0]);
@@ -124,6 +138,8 @@ fn take_list() -> bool {
     match call {
         Call::Settings(settings) => {
             take_calls(
+                stdin,
+                stdout,
                 airframe,
                 settings,
                 count as usize,
@@ -138,10 +154,13 @@ fn take_list() -> bool {
     }
 }
 
-// A proved loop has to end, and nothing says that the input does, so it counts its turns down from a number that no run uses up.
-fn main() {
-    let mut turns = u64::MAX;
-    while turns > 0 && take_list() {
-        turns -= 1;
+// A proved loop has to end, and nothing says that the input does, so it counts its turns up to a number that no run reaches.
+fn main(rt: HostRuntime) {
+    let mut stdin = rt.stdin();
+    let mut stdout = rt.stdout();
+    for _ in 0..u64::MAX {
+        if !take_list(&mut stdin, &mut stdout) {
+            return;
+        }
     }
 }

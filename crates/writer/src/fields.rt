@@ -79,13 +79,11 @@ impl Fields {
         let mut f = self;
         let mut place = place;
         let mut at = from;
-        let mut k: usize = 0;
-        while k < n {
+        for _ in 0..n {
             let end = find(text, at, to, Set::Comma, true);
             f = f.value(place, text, at, end);
             place = next(place);
             at = next(end);
-            k += 1;
         }
         f
     }

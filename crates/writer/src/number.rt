@@ -56,10 +56,8 @@ fn with_digit(n: u32, b: u8) -> u32 {
 // The number that the last nine digits of a part spell.
 pub(crate) fn spelt(text: &[u8], from: usize, to: usize) -> u32 {
     let mut n = 0u32;
-    let mut i = from;
-    while i < to {
+    for i in from..to {
         n = with_digit(n, byte_at(text, i));
-        i += 1;
     }
     n
 }
@@ -78,10 +76,8 @@ fn hex_value(b: u8) -> u32
 // The number that the last eight hexadecimal digits of a part spell.
 fn spelt_hex(text: &[u8], from: usize, to: usize) -> u32 {
     let mut n = 0u32;
-    let mut i = from;
-    while i < to {
+    for i in from..to {
         n = n % 0x1000_0000 * 16 + hex_value(byte_at(text, i));
-        i += 1;
     }
     n
 }
@@ -139,10 +135,8 @@ fn exponent(text: &[u8], e: usize, to: usize) -> Scale {
 // A number with so many zeros behind it.
 fn with_zeros(n: u32, zeros: usize) -> u32 {
     let mut n = n;
-    let mut i: usize = 0;
-    while i < zeros {
+    for _ in 0..zeros {
         n = with_digit(n, b'0');
-        i += 1;
     }
     n
 }

@@ -72,14 +72,12 @@ pub(crate) fn is_in(b: u8, set: Set) -> bool {
 pub(crate) fn find(text: &[u8], from: usize, to: usize, set: Set, inside: bool) -> usize
     ensures { from ≤ result }
 {
-    let mut i = from;
-    while i < to {
+    for i in from..to {
         if is_in(byte_at(text, i), set) == inside {
             return i;
         }
-        i += 1;
     }
-    i
+    from.max(to)
 }
 
 // The index after the last such byte of a part; else the part's beginning.
@@ -97,25 +95,21 @@ pub(crate) fn after_last(text: &[u8], from: usize, to: usize, set: Set, inside: 
 // How many bytes of a part are in the set.
 pub(crate) fn count(text: &[u8], from: usize, to: usize, set: Set) -> usize {
     let mut n = 0;
-    let mut i = from;
-    while i < to {
+    for i in from..to {
         if is_in(byte_at(text, i), set) {
             n = next(n);
         }
-        i += 1;
     }
     n
 }
 
 // Whether two parts of two texts have the same bytes. The second has to end where the first does: that is asked last.
 fn is_same(names: &[u8], at: usize, end: usize, text: &[u8], from: usize, to: usize) -> bool {
-    let mut i = at;
     let mut j = from;
-    while i < end {
+    for i in at..end {
         if byte_at(names, i) != byte_at(text, j) {
             return false;
         }
-        i += 1;
         j = next(j);
     }
     j == to

@@ -1,6 +1,6 @@
 // A text, line by line, to its card.
 ghost use Rattle.std.specs.Prelude.{◌≡◌, ◌+◌, ◌*◌, ◌-◌, ◌≤◌, ◌<◌, length};
-ghost use Rattle.io.specs.Counts.{IsPrefixLen};
+ghost use Rattle.streams.specs.Counts.{IsPrefixLen};
 
 use crate::line::{CallLine, HeaderLine, read_call, read_header};
 use crate::problem::{HeaderWhy, Problem, Verdict, Why, problem_at};

@@ -1,0 +1,120 @@
+// Reading to a buffer's end, writing bytes and numbers, and what is said of a failure, over any reader and writer of std.
+// No function here has a `requires`. A read that a signal interrupts before it moves a byte counts as one that failed; such a write is made again.
+#![tactic(auto)]
+
+ghost use Rattle.std.specs.Prelude.{◌≡◌, ◌<◌, length, take, IsTrue, None};
+ghost use Rattle.std.specs.Io.KnownBytes.{Appends, Consumes, IsAtEnd};
+ghost use Rattle.std.specs.Fmt.{decimal};
+ghost use Rattle.streams.specs.Counts.{IsPrefixLen, clamp_len};
+ghost use Rattle.streams.specs.Digits.{hex_text};
+
+use std::fmt::InlineText;
+use std::io;
+use std::io::{Read, Write};
+
+// How many bytes were read before the input ended, the buffer was full or a read failed, and the error of a read that failed.
+#[derive(Clone, Copy)]
+pub struct Input {
+    pub length: usize,
+    pub error: Option<io::Error>,
+}
+
+// 4,096 zeros. The `ensures` gives only the length, which lending the array as a slice needs.
+pub fn buffer() -> [u8; 4096]
+    ensures { 4096 ≡ length result }
+{
+    [0; 4096]
+}
+
+// 65,536 zeros.
+pub fn large_buffer() -> [u8; 65536]
+    ensures { 65536 ≡ length result }
+{
+    [0; 65536]
+}
+
+// Brings a length into the bounds of buf: 0 where it is negative, and never more than buf's length.
+pub fn count(got: isize, buf: &[u8]) -> usize
+    ensures in_bounds { IsPrefixLen result buf.now }
+    ensures value { result ≡ clamp_len got (length buf.now) }
+{
+    if got <= 0 {
+        return 0;
+    }
+    let n = got as usize;
+    if n < buf.len() { n } else { buf.len() }
+}
+
+// Reads until buf is full, the input ends or a read fails. On an empty buf it makes no call.
+pub fn read_input<R: Read>(from: &mut R, buf: &mut [u8]) -> Input
+    ensures in_bounds { IsPrefixLen result.length buf.new }
+    ensures bytes { Consumes (R.remaining from.old) (R.remaining from.new) (take result.length buf.new) }
+    ensures end { result.length < length buf.new → result.error ≡ None → IsAtEnd (R.remaining from.new) }
+{
+    let mut done = 0;
+    while done < buf.len() {
+        match from.read(&mut buf[done..]) {
+            Ok(0) => break,
+            Ok(n) => done += n,
+            Err(e) => {
+                return Input {
+                    length: done,
+                    error: Some(e),
+                };
+            }
+        }
+    }
+    Input {
+        length: done,
+        error: None,
+    }
+}
+
+// Reads as `read_input` does, and returns how many bytes it put at the start of buf.
+pub fn read_full<R: Read>(from: &mut R, buf: &mut [u8]) -> usize
+    ensures in_bounds { IsPrefixLen result buf.new }
+    ensures bytes { Consumes (R.remaining from.old) (R.remaining from.new) (take result buf.new) }
+{
+    read_input(from, buf).length
+}
+
+// Writes all of buf and returns true, or returns false after a write that takes nothing or fails, when some of buf may have been written.
+pub fn write_all<W: Write>(to: &mut W, buf: &[u8]) -> bool
+    ensures { IsTrue result → Appends (W.contents to.old) (W.contents to.new) buf.now }
+{
+    to.write_all(buf).is_ok()
+}
+
+// Writes n in decimal digits, with no line end, and returns what `write_all` does.
+pub fn print_decimal<W: Write>(to: &mut W, n: u64) -> bool
+    ensures { IsTrue result → Appends (W.contents to.old) (W.contents to.new) (decimal n) }
+{
+    write!(to, "{n}").is_ok()
+}
+
+// Writes n in hexadecimal digits, in lower case, with zeros in front up to width digits, and returns what `write_all` does.
+pub fn print_hex<W: Write>(to: &mut W, n: u64, width: usize) -> bool
+    ensures { IsTrue result → Appends (W.contents to.old) (W.contents to.new) (hex_text width n) }
+{
+    write!(to, "{n:0width$x}").is_ok()
+}
+
+// Writes a line: what failed, as the caller names it, a colon and what the error says, of which 300 bytes are kept. A line that cannot be written is left out.
+pub fn fail<W: Write>(to: &mut W, what: &[u8], error: io::Error) {
+    let text = InlineText::<300>::of(error);
+    write_all(to, what);
+    write_all(to, b": ");
+    write_all(to, without_number(text.as_str()).as_bytes());
+    write_all(to, b"\n");
+}
+
+// What an error says, without the system's number behind it.
+fn without_number(text: &str) -> &str {
+    match text.rsplit_once(" (os error ") {
+        Some((words, _)) => words,
+        None => text,
+    }
+}
+
+#[cfg(test)]
+mod tests;

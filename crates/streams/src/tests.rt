@@ -1,0 +1,103 @@
+// What the functions do with bytes in memory, and with a reader or a writer that fails.
+use super::*;
+use std::io::ErrorKind;
+use std::test::Fail;
+
+// Gives so many bytes, one a read, and then fails.
+#[derive(Drop)]
+struct Failing {
+    left: u8,
+}
+
+impl Read for Failing {
+    fn read(&mut self, buf: &mut [u8]) -> io::Result<usize> {
+        if self.left == 0 {
+            return Err(io::Error::from(ErrorKind::BrokenPipe));
+        }
+        if buf.is_empty() {
+            return Ok(0);
+        }
+        self.left -= 1;
+        buf[0] = 7;
+        Ok(1)
+    }
+}
+
+// Takes nothing.
+#[derive(Drop)]
+struct Full;
+
+impl Write for Full {
+    fn write(&mut self, _buf: &[u8]) -> io::Result<usize> {
+        Ok(0)
+    }
+
+    fn flush(&mut self) -> io::Result<()> {
+        Ok(())
+    }
+}
+
+#[test]
+fn counts(rt: HostRuntime) {
+    let buf = [0u8; 3];
+    assert_eq!(rt; count(-1, &buf), 0);
+    assert_eq!(rt; count(0, &buf), 0);
+    assert_eq!(rt; count(2, &buf), 2);
+    assert_eq!(rt; count(3, &buf), 3);
+    assert_eq!(rt; count(4, &buf), 3);
+}
+
+#[test]
+fn reads_until_full_or_at_the_end(rt: HostRuntime) {
+    let mut from: &[u8] = b"abcde";
+    let mut buf = [0u8; 3];
+    assert_eq!(rt; read_full(&mut from, &mut buf), 3);
+    assert_eq!(rt; buf, *b"abc");
+    assert_eq!(rt; read_full(&mut from, &mut buf), 2);
+    assert_eq!(rt; buf, *b"dec");
+    assert_eq!(rt; read_full(&mut from, &mut buf), 0);
+}
+
+#[test]
+fn reads_until_a_failure(rt: HostRuntime) {
+    let mut from = Failing { left: 5 };
+    let mut buf = [0u8; 3];
+    let all = read_input(&mut from, &mut buf);
+    assert_eq!(rt; all.length, 3);
+    assert!(rt; all.error.is_none());
+    let some = read_input(&mut from, &mut buf);
+    assert_eq!(rt; some.length, 2);
+    assert!(rt; some.error.is_some());
+}
+
+#[test]
+fn writes_numbers(rt: HostRuntime) -> Result<(), Fail> {
+    let mut to = Vec::new(rt.alloc());
+    assert!(rt; print_decimal(&mut to, 0));
+    assert!(rt; write_all(&mut to, b" "));
+    assert!(rt; print_decimal(&mut to, u64::MAX));
+    assert!(rt; write_all(&mut to, b" "));
+    assert!(rt; print_hex(&mut to, 0xaf, 8));
+    assert!(rt; write_all(&mut to, b" "));
+    assert!(rt; print_hex(&mut to, 0x1af, 2));
+    assert_eq!(rt;
+        to.as_slice(),
+        b"0 18446744073709551615 000000af 1af".as_slice()
+    );
+    Ok(())
+}
+
+#[test]
+fn says_what_failed(rt: HostRuntime) -> Result<(), Fail> {
+    let mut to = Vec::new(rt.alloc());
+    fail(&mut to, b"input", io::Error::from_raw_os_error(9));
+    fail(&mut to, b"output", io::Error::other("none of the system's"));
+    assert_eq!(rt;
+        to.as_slice(),
+        b"input: Bad file descriptor\noutput: none of the system's\n".as_slice()
+    );
+    assert!(rt; !write_all(&mut Full, b"a"));
+    assert!(rt; write_all(&mut Full, b""));
+    assert!(rt; !print_decimal(&mut Full, 1));
+    Ok(())
+}

@@ -1,7 +1,7 @@
 #!/usr/bin/env python3
 """Writes proofs/Laws/Linked.antt of numbers, machines and joined: that an environment has the code of the functions of `Joined` and of all that they call.
 
-usage: tools/link_laws.py     at the top of the repository, where the three crates are proved; run it again when a function comes or goes, or calls another one
+usage: tools/link_laws.py     at the top of the repository, where the three crates are proved; then rt fmt in each. Run it again when a function comes or goes, or calls another one
 
 It reads the calls of each function from `rt check --generated`.
 """

@@ -12,8 +12,8 @@ WRITE = "python3 -B tools/pages.py write"
 JOINED_SETTINGS_CODE, RECORD_CODE, KINDS_CODE = "crates/joined/src/settings.rt", "crates/card/src/record.rt", "crates/card/src/kind.rt"
 NAMES_CODE = "crates/writer/src/names.rt"
 REASONS_CODE, LETTERS_CODE, REFUSALS_CODE = "crates/machines/src/lib.rt", "crates/joined/src/answer.rt", "crates/card/src/refusal.rt"
-# Of each airframe: the struct of its settings, the constant of its defaults, and the function that makes the struct of a record's numbers.
-CODE = {fc.TAILSITTER: ("TransitionConfig", "TRANSITION_DEFAULTS", "transition_config"), fc.QUADPLANE: ("LiftTransitionConfig", "LIFT_TRANSITION_DEFAULTS", "lift_transition_config")}
+# Of each airframe: the struct of its settings, which is made of a record's numbers by From, and the constant of its defaults.
+CODE = {fc.TAILSITTER: ("TransitionConfig", "TRANSITION_DEFAULTS"), fc.QUADPLANE: ("LiftTransitionConfig", "LIFT_TRANSITION_DEFAULTS")}
 # How record.rt names each kind.
 KIND_CODE = {fc.PRIME: "Call::Prime", fc.STEP: "Call::Step", fc.CUT: "cut_for", fc.SETTINGS: "Call::Settings", fc.TAILSITTER: "Airframe::Tailsitter", fc.QUADPLANE: "Airframe::Quadplane"}
 # The refusals of the code that no card meets.
@@ -24,6 +24,9 @@ SUFFIXES = {"_mps2": "m/s²", "_radps": "rad/s", "_per_s": "1/s", "_mps": "m/s",
 CODE_ROW = re.compile(r"^    Range\((\w+), (\w+), (\w+), (\w+)\), // (\d+) (\w+) (.*)$", re.M)
 DEFINED_ROW = re.compile(r"^    (?:∷ )?(\w+) (\w+) (\w+) (\w+)  -- (\d+) (\w+)$", re.M)
 END_COUNTS = {"true": True, "false": False, "from": True, "above": False, "to": True, "below": False}
+# A table of a line's names in the writer, and a row of it.
+NAMED_PARTS = re.compile(r"^const (\w+): \[Part; \d+\] = \[(.*?)\];$", re.M | re.S)
+NAMED_PART = re.compile(r'Part\("(\w+)", (\d+), (\d+)\)')
 LETTERED = re.compile(r"FlightMode::(\w+) => b'(\w)'")
 
 
@@ -55,13 +58,13 @@ def check_settings(found):
     """The settings' names and order, their places in a record, and their defaults."""
     text, joined = source(SETTINGS_CODE), source(JOINED_SETTINGS_CODE)
     for kind, settings in fc.SETTINGS_OF.items():
-        struct, constant, maker = CODE[kind]
+        struct, constant = CODE[kind]
         names = [setting.name for setting in settings]
         fields = re.findall(r"pub (\w+): f32", block(text, f"pub struct {struct} ", SETTINGS_CODE))
         found.hold(f"{TABLES}, names of the {fc.AIRFRAMES[kind]}'s settings", names == fields, first_difference(names, fields, f"{struct} of {SETTINGS_CODE}"))
-        made = re.findall(r"(\w+): self\.n(\d+),", block(joined, rf"pub\(crate\) fn {maker}\(", JOINED_SETTINGS_CODE))
+        made = re.findall(r"(\w+): settings\.n(\d+),", block(joined, f"impl From<Settings> for {struct} ", JOINED_SETTINGS_CODE))
         placed = [(name, str(place)) for place, name in enumerate(names, 1)]
-        found.hold(f"{TABLES}, places of the {fc.AIRFRAMES[kind]}'s settings", placed == made, first_difference(placed, made, f"{maker} of {JOINED_SETTINGS_CODE}"))
+        found.hold(f"{TABLES}, places of the {fc.AIRFRAMES[kind]}'s settings", placed == made, first_difference(placed, made, f"{struct} of {JOINED_SETTINGS_CODE}"))
         defaults = dict(re.findall(r"(\w+): ([-+.\w]+),", block(text, f"pub const {constant}: ", SETTINGS_CODE)))
         for place, setting in enumerate(settings, 1):
             check_default(found, setting_name(kind, place, setting), setting, defaults.get(setting.name, "none"), constant)
@@ -194,10 +197,13 @@ def check_words(found):
 
 
 def check_names(found):
-    """The names that the writer of texts takes."""
-    ours = {fc.KINDS[airframe].upper(): " ".join(setting.name for setting in settings) for airframe, settings in fc.SETTINGS_OF.items()}
-    ours |= {"STEP": " ".join(part.name for part in fc.PARTS), "PRIME": "z", "REASONS": " ".join(fc.REPORTS[option] for option in fc.OPTIONS[fc.CUT])}
-    same_words(found, "the names of a text", ours, dict(re.findall(r'const (\w+): \[u8; \d+\] =\s*\*b"([^"]*)";', source(NAMES_CODE))), NAMES_CODE)
+    """The names that the writer of texts takes, each with its first number and how many it has, and the reasons of a cut."""
+    ours = {fc.KINDS[airframe].upper(): [(setting.name, place, 1) for place, setting in enumerate(settings, 1)] for airframe, settings in fc.SETTINGS_OF.items()}
+    ours |= {"STEP": [(part.name, part.first, part.size) for part in fc.PARTS], "PRIME": [("z", fc.PRIME_Z, 1)]}
+    code = {table: [(name, int(first), int(size)) for name, first, size in NAMED_PART.findall(rows)] for table, rows in NAMED_PARTS.findall(source(NAMES_CODE))}
+    same_words(found, "the names of a text", ours, code, NAMES_CODE)
+    reasons = {name: reason for name, reason in re.findall(r'^    \("(\w+)", ModeRefusal::(\w+)\),$', source(NAMES_CODE), re.M)}
+    same_words(found, "the reasons of a text's cut", {fc.REPORTS[option]: fc.REPORTS[option] for option in fc.OPTIONS[fc.CUT]}, reasons, NAMES_CODE)
 
 
 def same_words(found, what, ours, code, where):

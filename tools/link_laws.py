@@ -1,13 +1,13 @@
 #!/usr/bin/env python3
 """Writes proofs/Laws/Linked.antt of numbers, machines and joined: that an environment has the code of the functions of `Joined` and of all that they call.
 
-usage: tools/link_laws.py     at the top of the repository, where the three crates are proved; then rt fmt in each. Run it again when a function comes or goes, or calls another one
+usage: tools/link_laws.py     at the top of the repository, where the functions of the three crates are proved; then rt fmt in each. Run it again when a function comes or goes, or calls another one
 
-It reads the calls of each function from `rt check --generated`.
+It reads the calls of each function from the link that `rt check --generated` prints of it. A call of a function outside the three crates, as one of core, is an error: no law can name its link.
 """
 
-import json
 import os
+import re
 import subprocess
 import tempfile
 
@@ -20,18 +20,26 @@ WHAT = {
 }
 
 
+def called(link):
+    """The functions whose code a link asks for, in that order. A closure's call and a drop that a generic function does stand in the crate that makes them."""
+    symbols = {alias or "Symbol": path for path, alias in re.findall(r"^use Rattle\.(\S+)\.Symbol(?: as (\S+))?$", link, re.M)}
+    asked = re.findall(r"HasT look pool (Symbol\S*)\.code →$", link, re.M)
+    return [symbols[alias].replace(".proofs.", "::", 1).replace(".", "::") for alias in asked]
+
+
 def calls():
-    """Each function of the three crates, with those that it calls, in the order of their paths."""
+    """Each function of the three crates, with those that it calls."""
     found = {}
     for crate in CRATES:
         with tempfile.TemporaryDirectory() as to:
-            subprocess.run(["rt", "check", "--generated", to, "--old-names"], cwd=f"crates/{crate}", check=True, stdout=subprocess.DEVNULL, stderr=subprocess.DEVNULL)
-            with open(f"{to}/names.json", encoding="utf-8") as f:
-                names = json.load(f)
-        head = f"Rattle-{crate}-proofs."
-        for key, value in names.items():
-            if key.startswith(head) and key.endswith(".Lts"):
-                found[f"{crate}::" + key[len(head) : -len(".Lts")].replace(".", "::")] = sorted(value["params"])
+            # it fails where the Linked.antt that stands here is out of date, and prints the links all the same
+            subprocess.run(["rt", "check", "--generated", to], cwd=f"crates/{crate}", check=False, stdout=subprocess.DEVNULL, stderr=subprocess.DEVNULL)
+            top = f"{to}/Rattle-{crate}-proofs"
+            for folder, _, files in os.walk(top):
+                if "TheLink.antt" in files:
+                    path = os.path.relpath(folder, top).split(os.sep)
+                    with open(f"{folder}/TheLink.antt", encoding="utf-8") as f:
+                        found["::".join([crate, *path])] = called(f.read())
     return found
 
 
@@ -41,6 +49,8 @@ def below(found):
 
     def go(f):
         if f not in order:
+            if f not in found:
+                raise SystemExit(f"{f} is of none of the crates {', '.join(CRATES)}: no law can name its link")
             for g in found[f]:
                 go(g)
             order.append(f)
@@ -51,7 +61,7 @@ def below(found):
 
 
 def name(f):
-    return "_".join(f.split("::")[1:])
+    return re.sub(r"\W", "_", "_".join(f.split("::")[1:]))
 
 
 def module(f):

@@ -1,20 +1,18 @@
 -- The steps of a list, in the numbers of document 01, section 7, and the sum of their answers, which is for bench/ and no part of document 01. Definitions only. Assumes nothing.
 -- The numbers of step i stand from index 15 * i on, its option at index i. Past the end there are NaNs and zeros; no step reaches there.
-use Rattle.std.specs.Prelude.{ℕ, zero, suc, ◌+◌, ◌-◌, ◌*◌, ◌%◌, ◌^◌, ◌&&◌, List, [], ◌∷◌, length, ◌==◌, nat_le, slice_index, slice_index_or, Float, if◌then◌else◌}
+use Rattle.std.specs.Prelude.{ℕ, zero, suc, ◌+◌, ◌-◌, ◌*◌, ◌%◌, ◌^◌, ◌&&◌, List, [], ◌∷◌, length, ◌==◌, nat_le, slice_index, slice_index_or, Float, Result, Ok, Err, if◌then◌else◌}
 use Rattle.std.proofs.Math.Option.{Option, some, none}
 use Rattle.std.specs.Float.{nan}
 use Rattle.numbers.specs.Numbers.{zero32}
 use Rattle.joined.specs.declared.call.Call.{Call}
 use Rattle.joined.specs.declared.call.Call.TheVariants as call
-use Rattle.joined.specs.declared.answer.Answer.{Answer}
 use Rattle.joined.specs.declared.machine.Airframe.{Airframe}
 use Rattle.joined.specs.declared.machine.Airframe.TheVariants as airframe
 use Rattle.joined.specs.declared.joined.Joined.{Joined}
-use Rattle.joined.specs.declared.joined.NewJoined.{NewJoined}
-use Rattle.joined.specs.declared.joined.NewJoined.TheVariants as made
 use Rattle.joined.specs.Calls.{settings_by, step_input_by}
 use Rattle.joined.specs.Joined.{new_of}
-use Rattle.joined.specs.Shown.{Shown, refused, line, shown_of}
+use Rattle.machines.specs.declared.InputRefusal.{InputRefusal}
+use Rattle.joined.specs.Shown.{Answer, Shown, refused, line, shown_of}
 use Rattle.joined.specs.List.{after, answers_of}
 
 -- number k, from 1, of those that stand from index `at` on
@@ -48,9 +46,9 @@ abbrev pub airframe_for : ℕ → Airframe
 airframe_for kind = if kind == 5 then airframe.Tailsitter else airframe.Quadplane
 
 -- ---- the sum of the answers to the steps of a list that begins with a prime at z 0, whose own answer is left out; 0 if the settings are refused
-abbrev pub list_sum : NewJoined → List Float → List ℕ → ℕ
-list_sum (made.Joined j) numbers options = steps_sum (after j (call.Prime zero32 ∷ [])) numbers options (length options)
-list_sum (made.Refused why) numbers options = 0
+abbrev pub list_sum : Result Joined InputRefusal → List Float → List ℕ → ℕ
+list_sum (Ok j) numbers options = steps_sum (after j (call.Prime zero32 ∷ [])) numbers options (length options)
+list_sum (Err why) numbers options = 0
 
 -- and 0 if there are more than 800 steps, or fewer than 15 numbers for each
 abbrev pub bench_of : ℕ → List Float → List Float → List ℕ → ℕ

@@ -1,152 +1,154 @@
 // The steps of a list through the joined machine, summed: for bench/ alone.
 #![tactic(auto)]
 
-ghost use Rattle.std.specs.Prelude.{◌≡◌, ◌+◌, ◌*◌, ◌%◌, ◌^◌, ◌≤◌, length};
-ghost use Rattle.joined.specs.Shown.{tilt_bits, output_bits, flag_of, shown_of};
+ghost use Rattle.std.specs.Prelude.{◌≡◌, ◌+◌, ◌*◌, ◌%◌, ◌^◌, ◌≤◌, length, Ok};
+ghost use Rattle.joined.specs.Shown.{output_bits, shown_of};
 ghost use Rattle.joined.specs.Calls.{settings_by, step_input_by};
 ghost use Rattle.bench.specs.Steps.{number_at, output_sum, shown_sum, steps_sum, airframe_for, bench_of};
 
-use joined::answer::{Answer, Line, letter};
+use joined::answer::{Line, letter};
 use joined::call::{StepInput, airspeed_by, requested_by};
-use joined::joined::{Joined, NewJoined};
+use joined::joined::Joined;
 use joined::machine::Airframe;
 use joined::settings::Settings;
-use machines::VehicleState;
-use machines::answer::{ShareOrTilt, TiltTarget};
+use machines::answer::ShareOrTilt;
+use machines::{InputRefusal, VehicleState, report_number};
 use numbers::bits::to_bits;
 use numbers::vector::{Quaternion, Vec2, Vec3};
-use std::num::wrapping_add_u32;
 
-// What a step is told: its option, and its 15 numbers from index `at` on.
-fn step_at(numbers: &[f32], at: usize, option: u8) -> StepInput
-    requires { at + 15 ≤ length numbers.now }
-    ensures { result ≡ step_input_by option (number_at numbers.now at) }
+// What a step is told: its option, and its 15 numbers.
+#[tactic(auto, unfolding(joined::specs::Calls::step_input_by, joined::specs::Calls::vehicle_by))]
+fn step_of(option: u8, numbers: &[f32; 15]) -> StepInput
+    ensures { result ≡ step_input_by option (number_at numbers.now 0) }
 {
-    let requested = requested_by(option);
-    let airspeed = airspeed_by(option, numbers[at + 11]);
-    let state = VehicleState {
-        z_m: numbers[at + 1],
-        velocity_mps: Vec3 {
-            x: numbers[at + 2],
-            y: numbers[at + 3],
-            z: numbers[at + 4],
-        },
-        acceleration_mps2: Vec2 {
-            x: numbers[at + 5],
-            y: numbers[at + 6],
-        },
-        attitude: Quaternion {
-            w: numbers[at + 7],
-            x: numbers[at + 8],
-            y: numbers[at + 9],
-            z: numbers[at + 10],
-        },
+    let [
+        dt,
+        z_m,
+        vx,
+        vy,
+        vz,
+        ax,
+        ay,
+        w,
+        x,
+        y,
+        z,
         airspeed,
+        entry_tilt_rad,
+        bank_rad,
+        demand,
+    ] = *numbers;
+    let state = VehicleState {
+        z_m,
+        velocity_mps: Vec3 {
+            x: vx,
+            y: vy,
+            z: vz,
+        },
+        acceleration_mps2: Vec2 { x: ax, y: ay },
+        attitude: Quaternion { w, x, y, z },
+        airspeed: airspeed_by(option, airspeed),
     };
     StepInput {
-        dt: numbers[at],
-        requested,
+        dt,
+        requested: requested_by(option),
         state,
-        entry_tilt_rad: numbers[at + 12],
-        bank_rad: numbers[at + 13],
-        demand: numbers[at + 14],
+        entry_tilt_rad,
+        bank_rad,
+        demand,
     }
 }
 
 // The numbers as settings.
+#[tactic(auto, unfolding(joined::specs::Calls::settings_by))]
 fn settings_of(numbers: &[f32; 17]) -> Settings
     ensures { result ≡ settings_by (number_at numbers.now 0) }
 {
+    let [
+        n1,
+        n2,
+        n3,
+        n4,
+        n5,
+        n6,
+        n7,
+        n8,
+        n9,
+        n10,
+        n11,
+        n12,
+        n13,
+        n14,
+        n15,
+        n16,
+        n17,
+    ] = *numbers;
     Settings {
-        n1: numbers[0],
-        n2: numbers[1],
-        n3: numbers[2],
-        n4: numbers[3],
-        n5: numbers[4],
-        n6: numbers[5],
-        n7: numbers[6],
-        n8: numbers[7],
-        n9: numbers[8],
-        n10: numbers[9],
-        n11: numbers[10],
-        n12: numbers[11],
-        n13: numbers[12],
-        n14: numbers[13],
-        n15: numbers[14],
-        n16: numbers[15],
-        n17: numbers[16],
+        n1,
+        n2,
+        n3,
+        n4,
+        n5,
+        n6,
+        n7,
+        n8,
+        n9,
+        n10,
+        n11,
+        n12,
+        n13,
+        n14,
+        n15,
+        n16,
+        n17,
     }
 }
 
-// The tilt's bits, or 0 if there is none.
-fn tilt(target: TiltTarget) -> u32
-    ensures { result ≡ output_sum (tilt_bits target) }
-{
-    match target {
-        TiltTarget::Tilt(x) => to_bits(x),
-        TiltTarget::None => 0,
-    }
-}
-
-// The share's or the tilt's bits, or 0.
+// The share's or the tilt's bits, or 0 if there is none.
 fn share_or_tilt(output: ShareOrTilt) -> u32
     ensures { result ≡ output_sum (output_bits output) }
 {
     match output {
-        ShareOrTilt::Share(x) => to_bits(x),
-        ShareOrTilt::Tilt(target) => tilt(target),
+        ShareOrTilt::Share(x) | ShareOrTilt::Tilt(Some(x)) => to_bits(x),
+        ShareOrTilt::Tilt(None) => 0,
     }
 }
 
-// 1 or 0.
-fn flag(on: bool) -> u32
-    ensures { result ≡ flag_of on }
-{
-    if on { 1 } else { 0 }
-}
-
-// The sum and a line's numbers, modulo 2^32.
+// The sum of a line's numbers and of `sum`, modulo 2^32.
 fn add_line(sum: u32, line: Line) -> u32
-    ensures { result ≡ (sum + shown_sum (shown_of (Answer.Line line))) % 2 ^ 32 }
+    ensures { result ≡ (sum + shown_sum (shown_of (Ok line))) % 2 ^ 32 }
 {
-    let mode = line.mode;
-    let output = line.output;
-    let report = line.report;
-    let sum = wrapping_add_u32(sum, letter(mode) as u32);
-    let sum = wrapping_add_u32(sum, share_or_tilt(output));
-    let sum = wrapping_add_u32(sum, flag(line.handoff));
-    let sum = wrapping_add_u32(sum, report.number() as u32);
-    let sum = wrapping_add_u32(sum, to_bits(line.thrust));
-    wrapping_add_u32(sum, to_bits(line.pitch_rad))
+    sum.wrapping_add(letter(line.mode) as u32)
+        .wrapping_add(share_or_tilt(line.output))
+        .wrapping_add(line.handoff as u32)
+        .wrapping_add(report_number(line.report) as u32)
+        .wrapping_add(to_bits(line.thrust))
+        .wrapping_add(to_bits(line.pitch_rad))
 }
 
-// The sum and an answer's numbers, modulo 2^32.
-fn add_answer(sum: u32, answer: Answer) -> u32
+// The sum of an answer's numbers and of `sum`, modulo 2^32.
+fn add_answer(sum: u32, answer: Result<Line, InputRefusal>) -> u32
     ensures { result ≡ (sum + shown_sum (shown_of answer)) % 2 ^ 32 }
 {
     match answer {
-        Answer::Line(line) => add_line(sum, line),
-        Answer::Refused(why) => {
-            let sum = wrapping_add_u32(sum, why.number() as u32);
-            wrapping_add_u32(sum, why.field() as u32)
-        }
+        Ok(line) => add_line(sum, line),
+        Err(why) => sum
+            .wrapping_add(why.number() as u32)
+            .wrapping_add(why.field() as u32),
     }
 }
 
 // The sum of the answers to the steps, from a state on.
 fn steps(start: Joined, numbers: &[f32], options: &[u8]) -> u32
-    requires { (length options.now ≤ 800) × (15 * length options.now ≤ length numbers.now) }
+    requires { 15 * length options.now ≤ length numbers.now }
     ensures { result ≡ steps_sum start numbers.now options.now (length options.now) }
 {
     let mut joined = start;
     let mut sum = 0;
-    let mut i = 0;
-    while i < options.len() {
-        let update = joined.step(step_at(numbers, 15 * i, options[i]));
-        joined = update.joined;
-        let answer = update.answer;
-        sum = add_answer(sum, answer);
-        i += 1;
+    for (option, numbers) in options.iter().zip(numbers.as_chunks().0) {
+        let update = joined.step(step_of(*option, numbers));
+        joined = update.state;
+        sum = add_answer(sum, update.answer);
     }
     sum
 }
@@ -180,12 +182,8 @@ pub extern "C" fn bench_steps(
     if 15 * count > numbers.len() {
         return 0;
     }
-    let made = Joined::new(airframe(kind), settings_of(settings));
-    match made {
-        NewJoined::Joined(joined) => {
-            let primed = joined.prime(0.0);
-            steps(primed.joined, numbers, options)
-        }
-        NewJoined::Refused(_) => 0,
+    match Joined::new(airframe(kind), settings_of(settings)) {
+        Ok(joined) => steps(joined.prime(0.0).state, numbers, options),
+        Err(_) => 0,
     }
 }

@@ -1,6 +1,10 @@
 -- What holds of the definitions themselves, apart from the proofs of functions.
 pub mod Cases
+pub mod Kinds
+pub mod Parts
 pub mod Marks
+pub mod Outcomes
+pub mod Lines
 pub mod Walk
 pub mod Written
 pub mod Calls

@@ -1,12 +1,10 @@
 -- Document 01, section 7, and document 02, request 2.1: what a written record holds. Definitions only. Assumes nothing.
 -- Kinds and options are those of specs/Format.antt, places those of `settings_by` and `step_input_by` (joined, specs/Calls.antt), by which the reader takes them. That it reads what is written here are the laws of
 -- RoundTrip.antt.
-use Rattle.std.specs.Prelude.{ℕ, ◌+◌, List, [], ◌∷◌, replicate, Float}
+use Rattle.std.specs.Prelude.{ℕ, ◌+◌, List, [], ◌∷◌, replicate, Float, Option, Some, None}
 use Rattle.numbers.specs.Numbers.{bits_of, zero32}
 use Rattle.machines.specs.declared.FlightRegime.{FlightRegime}
 use Rattle.machines.specs.declared.FlightRegime.TheVariants as regime
-use Rattle.machines.specs.declared.Airspeed.{Airspeed}
-use Rattle.machines.specs.declared.Airspeed.TheVariants as airspeed
 use Rattle.machines.specs.declared.ModeRefusal.{ModeRefusal}
 use Rattle.machines.specs.Refusals.{reason_of}
 use Rattle.joined.specs.declared.settings.Settings.{Settings}
@@ -15,7 +13,9 @@ use Rattle.joined.specs.declared.call.Call.{Call}
 use Rattle.joined.specs.declared.call.Call.TheVariants as call
 use Rattle.joined.specs.declared.machine.Airframe.{Airframe}
 use Rattle.joined.specs.declared.machine.Airframe.TheVariants as airframe
-use Rattle.card.specs.Format.{prime_kind, step_kind, cut_kind, settings_kind, header_kind}
+use Rattle.card.specs.Format.{airframe_kind}
+use Rattle.card.specs.declared.kind.Kind.{Kind}
+use Rattle.card.specs.declared.kind.Kind.TheVariants as kind
 use Rattle.card.specs.declared.encode.Encoded.{Encoded}
 
 -- A number is its bits, with "A NaN is written as 7FC00000" (`bits_of`); "unused numbers zero": the literal 0
@@ -53,14 +53,14 @@ abbrev pub request_number : FlightRegime → ℕ
 request_number regime.Copter = 0
 request_number regime.Plane = 1
 
-abbrev pub present_number : Airspeed → ℕ
-present_number (airspeed.Present x) = 2
-present_number airspeed.Absent = 0
+abbrev pub present_number : Option Float → ℕ
+present_number (Some x) = 2
+present_number None = 0
 
 -- "A step uses 12 only with an airspeed, 13 to 15 always"
-abbrev pub speed_bits : Airspeed → ℕ
-speed_bits (airspeed.Present x) = bits_of x
-speed_bits airspeed.Absent = 0
+abbrev pub speed_bits : Option Float → ℕ
+speed_bits (Some x) = bits_of x
+speed_bits None = 0
 
 -- "1 dt, 2 z, 3-5 velocity, 6-7 acceleration, 8-11 w x y z, 12 airspeed, 13 entry tilt, 14 bank, 15 demand"
 unfoldable pub step_numbers : StepInput → List ℕ
@@ -72,26 +72,26 @@ step_numbers i =
 
 -- ---- each kind of record: "1 prime (2 = z); 2 step; 3 cut, option 11 to 16; 4 settings .. Other options and the header's are 0", "unused numbers zero"
 abbrev pub encode_prime : Float → Encoded
-encode_prime z = record { kind = prime_kind; option = 0; numbers = 0 ∷ bits_of z ∷ replicate 17 0 }
+encode_prime z = record { kind = kind.Prime; option = 0; numbers = 0 ∷ bits_of z ∷ replicate 17 0 }
 
 abbrev pub encode_step : StepInput → Encoded
-encode_step i = record { kind = step_kind; option = request_number i.requested + present_number i.state.airspeed; numbers = step_numbers i }
+encode_step i = record { kind = kind.Step; option = request_number i.requested + present_number i.state.airspeed; numbers = step_numbers i }
 
 abbrev pub encode_cut : ModeRefusal → Encoded
-encode_cut why = record { kind = cut_kind; option = reason_of why; numbers = replicate 19 0 }
+encode_cut why = record { kind = kind.Cut; option = reason_of why; numbers = replicate 19 0 }
 
-abbrev pub encode_settings : ℕ → Airframe → Settings → Encoded
-encode_settings kind a s = record { kind = kind; option = 0; numbers = settings_numbers (used_settings a s) }
+abbrev pub encode_settings : Kind → Airframe → Settings → Encoded
+encode_settings k a s = record { kind = k; option = 0; numbers = settings_numbers (used_settings a s) }
 
 abbrev pub encode_of : Airframe → Call → Encoded
 encode_of a (call.Prime z) = encode_prime z
 encode_of a (call.Step i) = encode_step i
 encode_of a (call.Cut why) = encode_cut why
-encode_of a (call.Settings s) = encode_settings settings_kind a s
+encode_of a (call.Settings s) = encode_settings kind.Settings a s
 
 -- "Record 0 is the header: kind 5 tailsitter, 6 quadplane; numbers are settings"
 abbrev pub encode_header : Airframe → Settings → Encoded
-encode_header a s = encode_settings (header_kind a) a s
+encode_header a s = encode_settings (airframe_kind a) a s
 
 -- ---- a call as its airframe uses it: what reading a written card gives back
 abbrev pub used_call : Airframe → Call → Call

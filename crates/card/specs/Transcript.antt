@@ -1,28 +1,21 @@
 -- Document 01, section 7: the transcript of a card. Definitions only. Assumes nothing.
 -- The card is decoded (a machine by its header, calls by the records of its chain), the calls are answered by document 01 (`answers_of` of the joined machine), and the answers are
 -- printed, each with its record's index.
-use Rattle.std.specs.Prelude.{ℕ, ◌≡◌, List, [], ◌∷◌, ◌++◌, length, drop}
+use Rattle.std.specs.Prelude.{ℕ, ◌≡◌, List, [], ◌∷◌, ◌++◌, length, drop, Option, Some, None, Result, Ok, Err}
 use Rattle.joined.specs.declared.call.Call.{Call}
-use Rattle.joined.specs.declared.answer.Answer.{Answer}
 use Rattle.joined.specs.declared.joined.Joined.{Joined}
-use Rattle.joined.specs.Shown.{shown_of}
+use Rattle.joined.specs.Shown.{Answer, shown_of}
 use Rattle.joined.specs.List.{answers_of}
 use Rattle.card.specs.CardRefusals.{card_refusal_of, card_field_of}
 use Rattle.card.specs.Format.{record_at, header_of}
 use Rattle.card.specs.Chain.{chain_of, outcome_of}
 use Rattle.card.specs.Text.{record_line, end_line, card_line}
 use Rattle.card.specs.declared.refusal.CardRefusal.{CardRefusal}
-use Rattle.card.specs.declared.record.Record.{Record}
-use Rattle.card.specs.declared.record.Record.TheVariants as says
-use Rattle.card.specs.declared.record.Header.{Header}
-use Rattle.card.specs.declared.record.Header.TheVariants as header
-use Rattle.card.specs.declared.chain.Checked.{Checked}
-use Rattle.card.specs.declared.chain.Checked.TheVariants as checked
 
 -- ---- the calls of the records passed, the last one first. A record that is no call adds none; a chain has none such (law `known`, Calls.antt)
-abbrev pub with_call : Record → List Call → List Call
-with_call (says.Known c) cs = c ∷ cs
-with_call says.Unknown cs = cs
+abbrev pub with_call : Option Call → List Call → List Call
+with_call (Some c) cs = c ∷ cs
+with_call None cs = cs
 
 abbrev pub calls_of : List ℕ → List ℕ → List Call
 calls_of card [] = []
@@ -43,10 +36,10 @@ abbrev pub refused_card : CardRefusal → List ℕ
 refused_card why = card_line (card_refusal_of why) (card_field_of why)
 
 -- by what the header and the check say. The check refuses a card with a refused header, so the last case is not met (law `found`, SecondWalk.antt)
-abbrev pub transcript_by : List ℕ → Header → Checked → List ℕ
-transcript_by card h (checked.Refused why) = refused_card why
-transcript_by card (header.Joined j) (checked.Walk n) = run_lines card j (chain_of card).passed ++ end_line n
-transcript_by card (header.Refused why) (checked.Walk n) = refused_card why
+abbrev pub transcript_by : List ℕ → Result Joined CardRefusal → Result ℕ CardRefusal → List ℕ
+transcript_by card h (Err why) = refused_card why
+transcript_by card (Ok j) (Ok n) = run_lines card j (chain_of card).passed ++ end_line n
+transcript_by card (Err why) (Ok n) = refused_card why
 
 -- of a card that is run with the marks m
 abbrev pub transcript_of : List ℕ → List ℕ → List ℕ

@@ -1,24 +1,23 @@
 -- Document 02, request 2.1: the card of settings and a list of calls, and what a writing answers. Definitions only. Assumes nothing.
 -- A list stands with its last call first, as in joined, specs/List.antt. What each record holds: specs/Encoding.antt.
-use Rattle.std.specs.Prelude.{ℕ, ◌+◌, ◌*◌, ◌≡◌, List, [], ◌∷◌, ◌++◌, length, drop, ltb, if◌then◌else◌}
+use Rattle.std.specs.Prelude.{ℕ, ◌+◌, ◌*◌, ◌≡◌, List, [], ◌∷◌, ◌++◌, length, drop, ltb, if◌then◌else◌, Result, Ok, Err}
 use Rattle.machines.specs.Refusals.{refusal_of, field_of}
 use Rattle.joined.specs.declared.settings.Settings.{Settings}
 use Rattle.joined.specs.declared.call.Call.{Call}
 use Rattle.joined.specs.declared.machine.Airframe.{Airframe}
-use Rattle.joined.specs.declared.joined.NewJoined.{NewJoined}
-use Rattle.joined.specs.declared.joined.NewJoined.TheVariants as made
+use Rattle.machines.specs.declared.InputRefusal.{InputRefusal}
+use Rattle.joined.specs.declared.joined.Joined.{Joined}
 use Rattle.joined.specs.Joined.{new_of}
+use Rattle.card.specs.Format.{kind_number}
 use Rattle.card.specs.Bytes.{le16, words_bytes}
 use Rattle.card.specs.Encoding.{encode_header, encode_of}
 use Rattle.card.specs.declared.encode.Encoded.{Encoded}
 use Rattle.card.specs.declared.write.WriteRefusal.{WriteRefusal}
 use Rattle.card.specs.declared.write.WriteRefusal.TheVariants as refusal
-use Rattle.card.specs.declared.write.Wrote.{Wrote}
-use Rattle.card.specs.declared.write.Wrote.TheVariants as wrote
 
 -- ---- the bytes of a record that is followed by record `next`
 abbrev pub record_bytes : ℕ → Encoded → List ℕ
-record_bytes next r = r.kind ∷ r.option ∷ le16 next ++ words_bytes r.numbers
+record_bytes next r = kind_number r.kind ∷ r.option ∷ le16 next ++ words_bytes r.numbers
 
 -- "records chained 1, 2, 3 and so on": what follows record i of a card with n calls; 0 ends the chain
 abbrev pub next_of : ℕ → ℕ → ℕ
@@ -52,17 +51,17 @@ write_field_of (refusal.Header why) = field_of why
 
 -- ---- what a writing answers, the number of bytes written or a refusal, and what it leaves of the buffer d
 pub record Writing : Type 0 where
-  pub answer : Wrote
+  pub answer : Result ℕ WriteRefusal
   pub out : List ℕ
 
 -- "A list that is refused writes no byte"
 abbrev pub not_written : WriteRefusal → List ℕ → Writing
-not_written why d = record { answer = wrote.Refused why; out = d }
+not_written why d = record { answer = Err why; out = d }
 
 -- "The header's settings are checked as a card's are": by the making of its machine. "It fills only the card's bytes in the lent buffer and returns how many they are"
-abbrev pub write_by : NewJoined → Airframe → Settings → ℕ → List Call → List ℕ → Writing
-write_by (made.Refused why) a s n cs d = not_written (refusal.Header why) d
-write_by (made.Joined j) a s n cs d = record { answer = wrote.Card (card_bytes n); out = card_of a s n cs ++ drop (card_bytes n) d }
+abbrev pub write_by : Result Joined InputRefusal → Airframe → Settings → ℕ → List Call → List ℕ → Writing
+write_by (Err why) a s n cs d = not_written (refusal.Header why) d
+write_by (Ok j) a s n cs d = record { answer = Ok (card_bytes n); out = card_of a s n cs ++ drop (card_bytes n) d }
 
 -- of the n calls cs: n is the number that the caller gives, and above 799 it is refused whatever else he gives. 21 and 22 come "before any setting is looked at".
 -- Nothing is asked of the calls: a settings call's numbers "are left to the run"
@@ -73,6 +72,6 @@ write_of a s n cs d =
     else write_by (new_of a s) a s n cs d
 
 -- the answer r, with the buffer d left behind, is this writing
-pub record Writes (writing : Writing) (r : Wrote) (d : List ℕ) : Type 0 where
+pub record Writes (writing : Writing) (r : Result ℕ WriteRefusal) (d : List ℕ) : Type 0 where
   pub answers : r ≡ writing.answer
   pub writes : d ≡ writing.out

@@ -2,17 +2,17 @@
 ghost use Rattle.std.specs.Prelude.{◌≡◌, ◌<◌};
 ghost use Rattle.card.specs.Encoding.{request_number, present_number, speed_bits, used_settings, settings_numbers, step_numbers, encode_prime, encode_step, encode_cut, encode_settings, encode_of, encode_header};
 
-use crate::kind::{CUT, PRIME, QUADPLANE, SETTINGS, STEP, TAILSITTER};
+use crate::kind::Kind;
 use joined::call::{Call, StepInput};
 use joined::machine::Airframe;
 use joined::settings::Settings;
-use machines::{Airspeed, FlightRegime, ModeRefusal};
+use machines::{FlightRegime, ModeRefusal};
 use numbers::bits::to_bits;
 
 // What a record holds besides its link: its kind, its option, and the bits of its numbers 1 to 19.
 #[derive(Clone, Copy)]
 pub(crate) struct Encoded {
-    pub(crate) kind: u8,
+    pub(crate) kind: Kind,
     pub(crate) option: u8,
     pub(crate) numbers: [u32; 19],
 }
@@ -28,23 +28,20 @@ fn request_number(requested: FlightRegime) -> u8
 }
 
 // 2 if there is an airspeed.
-fn present_number(airspeed: Airspeed) -> u8
+fn present_number(airspeed: Option<f32>) -> u8
     ensures { (result ≡ present_number airspeed) × (result < 3) }
 {
     match airspeed {
-        Airspeed::Present(_) => 2,
-        Airspeed::Absent => 0,
+        Some(_) => 2,
+        None => 0,
     }
 }
 
 // The airspeed's bits, 0 without one.
-fn speed_bits(airspeed: Airspeed) -> u32
+fn speed_bits(airspeed: Option<f32>) -> u32
     ensures { result ≡ speed_bits airspeed }
 {
-    match airspeed {
-        Airspeed::Present(x) => to_bits(x),
-        Airspeed::Absent => 0,
-    }
+    airspeed.map_or(0, to_bits)
 }
 
 // The settings that an airframe uses, 0 for the others.
@@ -127,7 +124,7 @@ fn encode_prime(z: f32) -> Encoded
     let mut numbers = [0u32; 19];
     numbers[1] = to_bits(z);
     Encoded {
-        kind: PRIME,
+        kind: Kind::Prime,
         option: 0,
         numbers,
     }
@@ -137,15 +134,10 @@ fn encode_prime(z: f32) -> Encoded
 fn encode_step(input: StepInput) -> Encoded
     ensures { result ≡ encode_step input }
 {
-    let requested = input.requested;
-    let state = input.state;
-    let airspeed = state.airspeed;
-    let option = request_number(requested) + present_number(airspeed);
-    let numbers = step_numbers(input);
     Encoded {
-        kind: STEP,
-        option,
-        numbers,
+        kind: Kind::Step,
+        option: request_number(input.requested) + present_number(input.state.airspeed),
+        numbers: step_numbers(input),
     }
 }
 
@@ -154,21 +146,20 @@ fn encode_cut(why: ModeRefusal) -> Encoded
     ensures { result ≡ encode_cut why }
 {
     Encoded {
-        kind: CUT,
+        kind: Kind::Cut,
         option: why.number(),
         numbers: [0; 19],
     }
 }
 
 // A settings record of a kind.
-fn encode_settings(kind: u8, airframe: Airframe, s: Settings) -> Encoded
+fn encode_settings(kind: Kind, airframe: Airframe, s: Settings) -> Encoded
     ensures { result ≡ encode_settings kind airframe s }
 {
-    let numbers = settings_numbers(used_settings(airframe, s));
     Encoded {
         kind,
         option: 0,
-        numbers,
+        numbers: settings_numbers(used_settings(airframe, s)),
     }
 }
 
@@ -180,7 +171,7 @@ pub(crate) fn encode(airframe: Airframe, call: Call) -> Encoded
         Call::Prime(z) => encode_prime(z),
         Call::Step(input) => encode_step(input),
         Call::Cut(why) => encode_cut(why),
-        Call::Settings(s) => encode_settings(SETTINGS, airframe, s),
+        Call::Settings(s) => encode_settings(Kind::Settings, airframe, s),
     }
 }
 
@@ -188,8 +179,5 @@ pub(crate) fn encode(airframe: Airframe, call: Call) -> Encoded
 pub(crate) fn encode_header(airframe: Airframe, s: Settings) -> Encoded
     ensures { result ≡ encode_header airframe s }
 {
-    match airframe {
-        Airframe::Tailsitter => encode_settings(TAILSITTER, airframe, s),
-        Airframe::Quadplane => encode_settings(QUADPLANE, airframe, s),
-    }
+    encode_settings(Kind::from(airframe), airframe, s)
 }

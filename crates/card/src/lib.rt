@@ -5,7 +5,7 @@
 mod bytes;
 pub mod chain;
 mod encode;
-mod kind;
+pub mod kind;
 pub mod record;
 pub mod refusal;
 pub mod run;

@@ -1,223 +1,167 @@
-// The records of a card (document 01, section 7).
-ghost use Rattle.std.specs.Prelude.{◌≡◌, ◌+◌, ◌*◌, ◌≤◌, ◌<◌, length};
+// The records of a card (document 01, section 7). A record stands for itself as 80 bytes; its kind and the like are those of record 0 of a card that is that record alone.
+ghost use Rattle.std.specs.Prelude.{◌≡◌, ◌<◌};
 ghost use Rattle.joined.specs.Joined.{new_of};
-ghost use Rattle.card.specs.Format.{next_at, kind_at, option_at, number_at, settings_at, vehicle_at, step_input_at, known_if, cut_for, record_at, read_of, is_known, header_for, header_of};
+ghost use Rattle.card.specs.Format.{kind_by, record_part, kind_at, option_at, next_at, number_at, settings_at, vehicle_at, step_input_at, cut_for, record_at, read_of, header_for, header_of};
+ghost use Rattle.card.specs.Chain.{records};
 
 use crate::bytes::{f32_at, u16_at};
-use crate::kind::{CUT, PRIME, QUADPLANE, SETTINGS, STEP, TAILSITTER};
+use crate::kind::Kind;
 use crate::refusal::CardRefusal;
 use joined::call::{Call, StepInput, airspeed_by, requested_by};
-use joined::joined::{Joined, NewJoined};
+use joined::joined::Joined;
 use joined::machine::Airframe;
 use joined::settings::Settings;
 use machines::{ModeRefusal, VehicleState};
 use numbers::vector::{Quaternion, Vec2, Vec3};
 
-// What a record after the header says: a call, or a kind or option that section 7 does not name.
-#[derive(Clone, Copy)]
-pub enum Record {
-    Known(Call),
-    Unknown,
-}
-
-// What the header says: a new joined machine, or why there is none.
-#[derive(Clone, Copy)]
-pub(crate) enum Header {
-    Joined(Joined),
-    Refused(CardRefusal),
-}
-
-// The kind of record i.
-fn kind_at(card: &[u8], i: usize) -> u8
-    requires { 80 * i + 80 ≤ length card.now }
-    ensures { result ≡ kind_at card.now i }
+// Record i of a card.
+pub(crate) fn record_part(card: &[u8], i: usize) -> &[u8; 80]
+    requires { i < records card.now }
+    ensures { result.now ≡ record_part card.now i }
 {
-    card[80 * i]
+    let (records, _) = card.as_chunks::<80>();
+    &records[i]
 }
 
-// The option of record i.
-fn option_at(card: &[u8], i: usize) -> u8
-    requires { 80 * i + 80 ≤ length card.now }
-    ensures { result ≡ option_at card.now i }
+// What a record is, if section 7 names its kind.
+fn kind_of(bytes: &[u8; 80]) -> Option<Kind>
+    ensures { result ≡ kind_by (kind_at bytes.now 0) }
 {
-    card[80 * i + 1]
+    Kind::try_from(bytes[0]).ok()
 }
 
-// The index of the record after record i; 0 ends the chain.
-pub(crate) fn next_at(card: &[u8], i: usize) -> usize
-    requires { 80 * i + 80 ≤ length card.now }
-    ensures { result ≡ next_at card.now i }
+// A record's option.
+fn option_of(bytes: &[u8; 80]) -> u8
+    ensures { result ≡ option_at bytes.now 0 }
 {
-    u16_at(card, 80 * i + 2) as usize
+    bytes[1]
 }
 
-// Number k of record i. Numbers 1 to 19 have a place.
-fn number_at(card: &[u8], i: usize, k: usize) -> f32
-    requires { (80 * i + 80 ≤ length card.now) × (k < 20) }
-    ensures { result ≡ number_at card.now i k }
+// The index of the record after this one; 0 ends the chain.
+pub(crate) fn next_of(bytes: &[u8; 80]) -> usize
+    ensures { result ≡ next_at bytes.now 0 }
 {
-    f32_at(card, 80 * i + 4 * k)
+    usize::from(u16_at(bytes, 2))
 }
 
-// The numbers of record i as settings.
-fn settings_at(card: &[u8], i: usize) -> Settings
-    requires { 80 * i + 80 ≤ length card.now }
-    ensures { result ≡ settings_at card.now i }
+// Number k of a record. Numbers 1 to 19 have a place.
+fn number_of(bytes: &[u8; 80], k: usize) -> f32
+    requires { k < 20 }
+    ensures { result ≡ number_at bytes.now 0 k }
+{
+    f32_at(bytes, 4 * k)
+}
+
+// A record's numbers as settings.
+fn settings_of(bytes: &[u8; 80]) -> Settings
+    ensures { result ≡ settings_at bytes.now 0 }
 {
     Settings {
-        n1: number_at(card, i, 1),
-        n2: number_at(card, i, 2),
-        n3: number_at(card, i, 3),
-        n4: number_at(card, i, 4),
-        n5: number_at(card, i, 5),
-        n6: number_at(card, i, 6),
-        n7: number_at(card, i, 7),
-        n8: number_at(card, i, 8),
-        n9: number_at(card, i, 9),
-        n10: number_at(card, i, 10),
-        n11: number_at(card, i, 11),
-        n12: number_at(card, i, 12),
-        n13: number_at(card, i, 13),
-        n14: number_at(card, i, 14),
-        n15: number_at(card, i, 15),
-        n16: number_at(card, i, 16),
-        n17: number_at(card, i, 17),
+        n1: number_of(bytes, 1),
+        n2: number_of(bytes, 2),
+        n3: number_of(bytes, 3),
+        n4: number_of(bytes, 4),
+        n5: number_of(bytes, 5),
+        n6: number_of(bytes, 6),
+        n7: number_of(bytes, 7),
+        n8: number_of(bytes, 8),
+        n9: number_of(bytes, 9),
+        n10: number_of(bytes, 10),
+        n11: number_of(bytes, 11),
+        n12: number_of(bytes, 12),
+        n13: number_of(bytes, 13),
+        n14: number_of(bytes, 14),
+        n15: number_of(bytes, 15),
+        n16: number_of(bytes, 16),
+        n17: number_of(bytes, 17),
     }
 }
 
 // What a step is told of the vehicle.
-fn vehicle_at(card: &[u8], i: usize) -> VehicleState
-    requires { 80 * i + 80 ≤ length card.now }
-    ensures { result ≡ vehicle_at card.now i }
+fn vehicle_of(bytes: &[u8; 80]) -> VehicleState
+    ensures { result ≡ vehicle_at bytes.now 0 }
 {
-    let airspeed = airspeed_by(option_at(card, i), number_at(card, i, 12));
     VehicleState {
-        z_m: number_at(card, i, 2),
+        z_m: number_of(bytes, 2),
         velocity_mps: Vec3 {
-            x: number_at(card, i, 3),
-            y: number_at(card, i, 4),
-            z: number_at(card, i, 5),
+            x: number_of(bytes, 3),
+            y: number_of(bytes, 4),
+            z: number_of(bytes, 5),
         },
         acceleration_mps2: Vec2 {
-            x: number_at(card, i, 6),
-            y: number_at(card, i, 7),
+            x: number_of(bytes, 6),
+            y: number_of(bytes, 7),
         },
         attitude: Quaternion {
-            w: number_at(card, i, 8),
-            x: number_at(card, i, 9),
-            y: number_at(card, i, 10),
-            z: number_at(card, i, 11),
+            w: number_of(bytes, 8),
+            x: number_of(bytes, 9),
+            y: number_of(bytes, 10),
+            z: number_of(bytes, 11),
         },
-        airspeed,
+        airspeed: airspeed_by(option_of(bytes), number_of(bytes, 12)),
     }
 }
 
 // What a step is told.
-fn step_input_at(card: &[u8], i: usize) -> StepInput
-    requires { 80 * i + 80 ≤ length card.now }
-    ensures { result ≡ step_input_at card.now i }
+fn step_input_of(bytes: &[u8; 80]) -> StepInput
+    ensures { result ≡ step_input_at bytes.now 0 }
 {
-    let requested = requested_by(option_at(card, i));
-    let state = vehicle_at(card, i);
     StepInput {
-        dt: number_at(card, i, 1),
-        requested,
-        state,
-        entry_tilt_rad: number_at(card, i, 13),
-        bank_rad: number_at(card, i, 14),
-        demand: number_at(card, i, 15),
-    }
-}
-
-// The call, if its option is one that it may have.
-fn known_if(good: bool, call: Call) -> Record
-    ensures { result ≡ known_if good call }
-{
-    if good {
-        Record::Known(call)
-    } else {
-        Record::Unknown
+        dt: number_of(bytes, 1),
+        requested: requested_by(option_of(bytes)),
+        state: vehicle_of(bytes),
+        entry_tilt_rad: number_of(bytes, 13),
+        bank_rad: number_of(bytes, 14),
+        demand: number_of(bytes, 15),
     }
 }
 
 // A record of kind 3 with this option: a cut, for the reason of that number.
-fn cut_for(option: u8) -> Record
+fn cut_for(option: u8) -> Option<Call>
     ensures { result ≡ cut_for option }
 {
-    match option {
-        11 => Record::Known(Call::Cut(ModeRefusal::Unsupported)),
-        12 => Record::Known(Call::Cut(ModeRefusal::OnGround)),
-        13 => Record::Known(Call::Cut(ModeRefusal::BelowMinAltitude)),
-        14 => Record::Known(Call::Cut(ModeRefusal::TransitionTimeout)),
-        15 => Record::Known(Call::Cut(ModeRefusal::RollError)),
-        16 => Record::Known(Call::Cut(ModeRefusal::BelowPlaneMinAltitude)),
-        _ => Record::Unknown,
-    }
+    ModeRefusal::try_from(option).ok().map(Call::Cut)
 }
 
-// What record i says, if it is not the header.
-pub(crate) fn record_at(card: &[u8], i: usize) -> Record
-    requires { 80 * i + 80 ≤ length card.now }
-    ensures { result ≡ record_at card.now i }
+// The call that a record after the header is; none if section 7 does not name its kind or option.
+pub(crate) fn call_of(bytes: &[u8; 80]) -> Option<Call>
+    ensures { result ≡ record_at bytes.now 0 }
 {
-    let kind = kind_at(card, i);
-    let option = option_at(card, i);
-    match kind {
-        PRIME => known_if(option == 0, Call::Prime(number_at(card, i, 2))),
-        STEP => known_if(option <= 3, Call::Step(step_input_at(card, i))),
-        CUT => cut_for(option),
-        SETTINGS => known_if(option == 0, Call::Settings(settings_at(card, i))),
-        _ => Record::Unknown,
+    let option = option_of(bytes);
+    match kind_of(bytes)? {
+        Kind::Prime => (option == 0).then_some(Call::Prime(number_of(bytes, 2))),
+        Kind::Step => (option <= 3).then_some(Call::Step(step_input_of(bytes))),
+        Kind::Cut => cut_for(option),
+        Kind::Settings => (option == 0).then_some(Call::Settings(settings_of(bytes))),
+        _ => None,
     }
 }
 
-// What record i of any bytes says; an index past the card's whole records names no call, nor does a header.
-pub fn read_record(card: &[u8], i: usize) -> Record
+// The call that record i of any bytes is; an index past the card's whole records names no call, nor does a header.
+pub fn read_record(card: &[u8], i: usize) -> Option<Call>
     ensures { result ≡ read_of card.now i }
 {
-    if i < card.len() / 80 {
-        record_at(card, i)
-    } else {
-        Record::Unknown
+    let (records, _) = card.as_chunks::<80>();
+    call_of(records.get(i)?)
+}
+
+// The new joined machine of a header, or why there is none.
+pub(crate) fn header_of(bytes: &[u8; 80]) -> Result<Joined, CardRefusal>
+    ensures { result ≡ header_of bytes.now }
+{
+    if option_of(bytes) != 0 {
+        return Err(CardRefusal::KindOrOption);
+    }
+    match kind_of(bytes).ok_or(CardRefusal::KindOrOption)? {
+        Kind::Tailsitter => header_for(bytes, Airframe::Tailsitter),
+        Kind::Quadplane => header_for(bytes, Airframe::Quadplane),
+        _ => Err(CardRefusal::KindOrOption),
     }
 }
 
-// Whether record i is a call.
-pub(crate) fn is_known(card: &[u8], i: usize) -> bool
-    requires { 80 * i + 80 ≤ length card.now }
-    ensures { result ≡ is_known (record_at card.now i) }
+// A new joined machine for an airframe with a record's numbers as settings, or the refusal of these.
+fn header_for(bytes: &[u8; 80], airframe: Airframe) -> Result<Joined, CardRefusal>
+    ensures { result ≡ header_for (new_of airframe (settings_at bytes.now 0)) }
 {
-    let record = record_at(card, i);
-    match record {
-        Record::Known(_) => true,
-        Record::Unknown => false,
-    }
-}
-
-// The header of a card for an airframe: a new joined machine with its settings, or the refusal of these.
-fn header_for(card: &[u8], airframe: Airframe) -> Header
-    requires { 80 ≤ length card.now }
-    ensures { result ≡ header_for (new_of airframe (settings_at card.now 0)) }
-{
-    let made = Joined::new(airframe, settings_at(card, 0));
-    match made {
-        NewJoined::Joined(joined) => Header::Joined(joined),
-        NewJoined::Refused(why) => Header::Refused(CardRefusal::Header(why)),
-    }
-}
-
-// What the header says.
-pub(crate) fn header_of(card: &[u8]) -> Header
-    requires { 80 ≤ length card.now }
-    ensures { result ≡ header_of card.now }
-{
-    if option_at(card, 0) != 0 {
-        return Header::Refused(CardRefusal::KindOrOption);
-    }
-    let kind = kind_at(card, 0);
-    match kind {
-        TAILSITTER => header_for(card, Airframe::Tailsitter),
-        QUADPLANE => header_for(card, Airframe::Quadplane),
-        _ => Header::Refused(CardRefusal::KindOrOption),
-    }
+    Ok(Joined::new(airframe, settings_of(bytes))?)
 }

@@ -1,11 +1,12 @@
 // Why a card is turned down (document 01, section 9).
 ghost use Rattle.std.specs.Prelude.{◌≡◌};
 ghost use Rattle.card.specs.CardRefusals.{card_refusal_of, card_field_of};
+ghost use Rattle.card.specs.declared.refusal.CardRefusal.TheVariants as refusal;
 
 use machines::InputRefusal;
 
 // The refusal of the header's settings, a 3 with its field, and 6 to 10 of section 9.
-#[derive(Clone, Copy)]
+#[derive(Clone, Copy, Debug, PartialEq, Eq)]
 pub enum CardRefusal {
     Header(InputRefusal),
     Length,
@@ -36,11 +37,16 @@ impl CardRefusal {
     {
         match self {
             CardRefusal::Header(why) => why.field(),
-            CardRefusal::Length => 0,
-            CardRefusal::Marks => 0,
-            CardRefusal::NextIndex => 0,
-            CardRefusal::PassedRecord => 0,
-            CardRefusal::KindOrOption => 0,
+            _ => 0,
         }
+    }
+}
+
+// The header's settings are refused by the making of its machine.
+impl From<InputRefusal> for CardRefusal {
+    ghost from_gives = { λ why r. r ≡ refusal.Header why };
+
+    fn from(why: InputRefusal) -> CardRefusal {
+        Self::Header(why)
     }
 }

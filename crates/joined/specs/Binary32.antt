@@ -1,9 +1,7 @@
 -- Demand 3: the theorem's only hypothesis on settings and calls: their numbers are binary32 values. The NaN and the infinities are such values. Definitions only. Assumes nothing.
 -- Borrowed: `IsBinary32` of specs/Numbers.antt.
-use Rattle.std.specs.Prelude.{List, [], ◌∷◌}
+use Rattle.std.specs.Prelude.{List, [], ◌∷◌, Float, Option, Some, None}
 use Rattle.numbers.specs.Numbers.{IsBinary32}
-use Rattle.machines.specs.declared.Airspeed.{Airspeed}
-use Rattle.machines.specs.declared.Airspeed.TheVariants as airspeed
 use Rattle.machines.specs.declared.VehicleState.{VehicleState}
 use Rattle.joined.specs.declared.settings.Settings.{Settings}
 use Rattle.joined.specs.declared.call.StepInput.{StepInput}
@@ -15,9 +13,9 @@ Binary32Settings s =
     IsBinary32 s.n1 × IsBinary32 s.n2 × IsBinary32 s.n3 × IsBinary32 s.n4 × IsBinary32 s.n5 × IsBinary32 s.n6 × IsBinary32 s.n7 × IsBinary32 s.n8 × IsBinary32 s.n9
     × IsBinary32 s.n10 × IsBinary32 s.n11 × IsBinary32 s.n12 × IsBinary32 s.n13 × IsBinary32 s.n14 × IsBinary32 s.n15 × IsBinary32 s.n16 × IsBinary32 s.n17
 
-abbrev pub Binary32Airspeed : Airspeed → Type 0
-Binary32Airspeed airspeed.Absent = Unit {0}
-Binary32Airspeed (airspeed.Present x) = IsBinary32 x
+abbrev pub Binary32Airspeed : Option Float → Type 0
+Binary32Airspeed None = Unit {0}
+Binary32Airspeed (Some x) = IsBinary32 x
 
 abbrev pub Binary32Vehicle : VehicleState → Type 0
 Binary32Vehicle v =

@@ -9,14 +9,12 @@
 -- A list stands with its LAST call first, so time runs from right to left: in c ∷ cs the calls cs were made before c, and in later ++ earlier those of `earlier`.
 -- Borrowed: `new_of` of section 6, `tilt_of` and `share_of` of section 4; `longest32` (16,384 s) of specs/Numbers.antt; of the library `T` (a test passes), `le` and `lt` (IEEE 754's ≤ and <, for
 -- which −0 is 0 and a NaN is in no order), `num` and `den` (a finite number's size as a fraction).
-use Rattle.std.specs.Prelude.{◌≡◌, not, List, [], ◌∷◌, ◌++◌, ℕ, ◌+◌, ◌*◌, ◌≤◌, ◌<◌, T, Float}
+use Rattle.std.specs.Prelude.{◌≡◌, not, List, [], ◌∷◌, ◌++◌, ℕ, ◌+◌, ◌*◌, ◌≤◌, ◌<◌, T, Float, Ok, Err, Option, Some, None}
 use Rattle.std.specs.Float.Ieee.{lt, le}
 use Rattle.std.specs.Float.Ieee.Positive.{num, den}
 use Rattle.numbers.specs.Numbers.{◌⊖◌, zero32, one32, pi32, longest32, finite}
 use Rattle.machines.specs.declared.FlightMode.{FlightMode}
 use Rattle.machines.specs.declared.FlightMode.TheVariants as mode
-use Rattle.machines.specs.declared.answer.TiltTarget.{TiltTarget}
-use Rattle.machines.specs.declared.answer.TiltTarget.TheVariants as tilt
 use Rattle.machines.specs.declared.answer.ShareOrTilt.{ShareOrTilt}
 use Rattle.machines.specs.declared.answer.ShareOrTilt.TheVariants as output
 use Rattle.machines.specs.Transition.{tilt_of}
@@ -25,14 +23,12 @@ use Rattle.joined.specs.declared.settings.Settings.{Settings}
 use Rattle.joined.specs.declared.call.StepInput.{StepInput}
 use Rattle.joined.specs.declared.call.Call.{Call}
 use Rattle.joined.specs.declared.call.Call.TheVariants as call
-use Rattle.joined.specs.declared.answer.Answer.{Answer}
-use Rattle.joined.specs.declared.answer.Answer.TheVariants as answer
+use Rattle.joined.specs.Shown.{Answer}
 use Rattle.joined.specs.declared.machine.Airframe.{Airframe}
 use Rattle.joined.specs.declared.machine.Airframe.TheVariants as airframe
 use Rattle.joined.specs.declared.machine.Machine.{Machine}
 use Rattle.joined.specs.declared.machine.Machine.TheVariants as machine
 use Rattle.joined.specs.declared.joined.Joined.{Joined}
-use Rattle.joined.specs.declared.joined.NewJoined.TheVariants as made
 use Rattle.joined.specs.Machine.{airframe_of, mode_is}
 use Rattle.joined.specs.Joined.{new_of}
 use Rattle.joined.specs.List.{after, answers_of, shown_all, mode_at, clock_at, min_height_of, plane_min_height_of, is_prime, is_accepted_step, leaves_copter, abandons, copter_request_in_copter}
@@ -42,9 +38,9 @@ use Rattle.joined.specs.List.{ends_in, at_least_tick, KeepsSettings, reads_minim
 abbrev pub InUnit : Float → Type 0
 InUnit x = T (le zero32 x) × T (le x one32)
 
-abbrev pub TiltInRange : TiltTarget → Type 0
-TiltInRange tilt.None = Unit {0}
-TiltInRange (tilt.Tilt x) = T (le zero32 x) × T (le x pi32)
+abbrev pub TiltInRange : Option Float → Type 0
+TiltInRange None = Unit {0}
+TiltInRange (Some x) = T (le zero32 x) × T (le x pi32)
 
 -- of the share or tilt of a state
 abbrev pub OutputInRange : Machine → Type 0
@@ -57,8 +53,8 @@ ShownInRange (output.Share x) = InUnit x
 ShownInRange (output.Tilt t) = TiltInRange t
 
 abbrev pub LineInRange : Answer → Type 0
-LineInRange (answer.Refused why) = Unit {0}
-LineInRange (answer.Line line) = InUnit line.thrust × ShownInRange line.output
+LineInRange (Err why) = Unit {0}
+LineInRange (Ok line) = InUnit line.thrust × ShownInRange line.output
 
 abbrev pub LinesInRange : List Answer → Type 0
 LinesInRange [] = Unit {0}
@@ -225,7 +221,7 @@ ByMode mode.ToCopter j cs = InTransition j cs
 -- they leave
 pub record Claim (a : Airframe) (s : Settings) (j : Joined) (cs : List Call) (answers : List Answer) (end : Joined) : Type 0 where
   -- "from a new joined machine with any accepted settings"
-  pub new : new_of a s ≡ made.Joined j
+  pub new : new_of a s ≡ Ok j
   -- "each answer is the one document 01 defines": as the program has it, and in the paper's letters and numbers
   pub defined : answers ≡ answers_of j cs
   pub shown : shown_all answers ≡ shown_all (answers_of j cs)

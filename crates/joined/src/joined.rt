@@ -1,13 +1,13 @@
 // The joined machine (document 01, section 6; document 02, 2.2).
 ghost use Rattle.std.specs.Prelude.{◌≡◌};
-ghost use Rattle.joined.specs.Joined.{initial, new_of, answered, refused_by, answered_if, handoff_if, stepped, stepped_if, step_of, prime_of, cut_of, set_of, call_of, EntrySays};
+ghost use Rattle.joined.specs.Joined.{initial, new_of, answered, answered_if, handoff_if, stepped, stepped_if, step_of, prime_of, cut_of, set_of, call_of, EntrySays};
 
-use crate::answer::{Answer, Line};
+use crate::answer::Line;
 use crate::call::{Call, StepInput};
-use crate::machine::{Airframe, Machine, MachineUpdate, NewMachine};
+use crate::machine::{Airframe, Machine};
 use crate::settings::Settings;
-use crate::thrust::{entry_pitch, starts_handoff};
-use machines::answer::{TransitionAnswer, TransitionStep};
+use crate::thrust::{Modes, Thrusted};
+use machines::answer::{TransitionStep, Update};
 use machines::deceleration::BackDeceleration;
 use machines::handoff::ThrustHandoff;
 use machines::{InputRefusal, ModeRefusal};
@@ -24,29 +24,15 @@ pub struct Joined {
     thrust: f32,
 }
 
-// The state after a call, with its answer.
-#[derive(Clone, Copy)]
-pub struct JoinedUpdate {
-    pub joined: Joined,
-    pub answer: Answer,
-}
-
-// A new joined machine, or why there is none.
-#[derive(Clone, Copy)]
-pub enum NewJoined {
-    Refused(InputRefusal),
-    Joined(Joined),
-}
-
 impl Joined {
     // A joined machine of an airframe with these settings, or refusal 3 with the field.
-    pub fn new(airframe: Airframe, settings: Settings) -> NewJoined
+    pub fn new(airframe: Airframe, settings: Settings) -> Result<Joined, InputRefusal>
         ensures { result ≡ new_of airframe settings }
     {
-        let made = airframe.machine(settings);
-        match made {
-            NewMachine::Machine(machine) => NewJoined::Joined(Joined::initial(machine)),
-            NewMachine::Refused(why) => NewJoined::Refused(why),
+        // no `?`: `list_theorem` needs the code of all that this calls, and core's cannot be named there
+        match airframe.machine(settings) {
+            Ok(machine) => Ok(Joined::initial(machine)),
+            Err(why) => Err(why),
         }
     }
 
@@ -54,53 +40,42 @@ impl Joined {
     pub(crate) fn initial(machine: Machine) -> Joined
         ensures { result ≡ initial machine }
     {
-        let handoff = ThrustHandoff::inactive(machine.handoff_s());
-        let deceleration = BackDeceleration::new();
         Joined {
             machine,
-            handoff,
-            deceleration,
+            handoff: ThrustHandoff::inactive(machine.handoff_s()),
+            deceleration: BackDeceleration::new(),
             thrust: 0.0,
         }
     }
 
     // The state with the answer that shows it.
-    pub(crate) fn answered(self, step: TransitionStep) -> JoinedUpdate
+    pub(crate) fn answered(self, step: TransitionStep) -> Update<Joined, Line>
         ensures { result ≡ answered self step }
     {
-        let mode = step.mode;
-        let output = step.output;
-        let report = step.refusal;
-        JoinedUpdate {
-            joined: self,
-            answer: Answer::Line(Line {
-                mode,
-                output,
+        Update {
+            state: self,
+            answer: Ok(Line {
+                mode: step.mode,
+                output: step.output,
                 handoff: step.handoff,
-                report,
+                report: step.refusal,
                 thrust: self.thrust,
                 pitch_rad: self.deceleration.pitch_rad,
             }),
         }
     }
 
-    // The state as it was.
-    pub(crate) fn refused(self, why: InputRefusal) -> JoinedUpdate
-        ensures { result ≡ refused_by self why }
-    {
-        JoinedUpdate {
-            joined: self,
-            answer: Answer::Refused(why),
-        }
-    }
-
     // By the machine's answer: the state as it was, or the next one with the line that shows it.
-    pub(crate) fn answered_if(self, answer: TransitionAnswer, next: Joined) -> JoinedUpdate
+    pub(crate) fn answered_if(
+        self,
+        answer: Result<TransitionStep, InputRefusal>,
+        next: Joined,
+    ) -> Update<Joined, Line>
         ensures { result ≡ answered_if answer self next }
     {
         match answer {
-            TransitionAnswer::Step(step) => next.answered(step),
-            TransitionAnswer::Refused(why) => self.refused(why),
+            Ok(step) => next.answered(step),
+            Err(why) => Update::refused(self, why),
         }
     }
 
@@ -119,101 +94,93 @@ impl Joined {
     pub(crate) fn stepped(self, machine: Machine, step: TransitionStep, input: StepInput) -> Joined
         ensures { result ≡ stepped self machine step input }
     {
-        let found = self.machine;
-        let before = found.mode();
-        let after = step.mode;
-        let pitch = self.deceleration;
-        let pitch = entry_pitch(before, after, pitch);
-        let deceleration = machine.stepped_pitch(after, input, pitch);
-        let starts = starts_handoff(before, after, step.handoff);
-        let handoff = self.handoff_if(starts, machine);
-        let thrusted = machine.thrust(before, after, self.thrust, handoff, input);
-        let handoff = thrusted.handoff;
+        let modes = Modes {
+            before: self.machine.mode(),
+            after: step.mode,
+        };
+        let pitch = modes.entry_pitch(self.deceleration);
+        let starts = modes.starts_handoff(step.handoff);
+        let kept = Thrusted {
+            handoff: self.handoff_if(starts, machine),
+            thrust: self.thrust,
+        };
+        let thrusted = machine.thrust(modes, kept, input);
         Joined {
             machine,
-            handoff,
-            deceleration,
+            handoff: thrusted.handoff,
+            deceleration: machine.stepped_pitch(modes.after, input, pitch),
             thrust: thrusted.thrust,
         }
     }
 
     // The update of a step, with what becomes of handoff, pitch and thrust.
-    pub(crate) fn stepped_by(self, update: MachineUpdate, input: StepInput) -> JoinedUpdate
-        ensures { result ≡ stepped_if update.answer self update.machine input }
+    pub(crate) fn stepped_by(
+        self,
+        update: Update<Machine, TransitionStep>,
+        input: StepInput,
+    ) -> Update<Joined, Line>
+        ensures { result ≡ stepped_if update.answer self update.state input }
     {
-        let machine = update.machine;
-        let answer = update.answer;
-        match answer {
-            TransitionAnswer::Step(step) => self.stepped(machine, step, input).answered(step),
-            TransitionAnswer::Refused(why) => self.refused(why),
+        match update.answer {
+            Ok(step) => self.stepped(update.state, step, input).answered(step),
+            Err(why) => Update::refused(self, why),
         }
     }
 
     // One step, with refusals 1 and 2. A transition that has rolled past the limit is cut short; else the machine is updated.
     // The test of dt stands first, so that the compiler knows its outcome in all that follows.
-    pub fn step(self, input: StepInput) -> JoinedUpdate
+    pub fn step(self, input: StepInput) -> Update<Joined, Line>
         ensures { result ≡ step_of self input }
     {
         if !is_positive(input.dt) {
-            return self.refused(InputRefusal::TimeStep);
+            return Update::refused(self, InputRefusal::TimeStep);
         }
-        let machine = self.machine;
-        let update = machine.update(input);
-        let answer = update.answer;
-        match answer {
-            TransitionAnswer::Step(_) => {
-                self.stepped_by(update.cut_or(machine, input.bank_rad), input)
-            }
-            TransitionAnswer::Refused(why) => self.refused(why),
+        let update = self.machine.update(input);
+        match update.answer {
+            Ok(_) => self.stepped_by(self.machine.cut_or(input.bank_rad, update), input),
+            Err(why) => Update::refused(self, why),
         }
     }
 
     // Copter, with z as the height reference; a new handoff, pitch 0, thrust 0. No machine refuses a prime.
-    pub fn prime(self, z_m: f32) -> JoinedUpdate
+    pub fn prime(self, z_m: f32) -> Update<Joined, Line>
         ensures { result ≡ prime_of self z_m }
     {
-        let machine = self.machine;
-        let update = machine.prime(z_m);
-        let machine = update.machine;
-        let answer = update.answer;
-        self.answered_if(answer, Joined::initial(machine))
+        let update = self.machine.prime(z_m);
+        self.answered_if(update.answer, Joined::initial(update.state))
     }
 
     // Cuts a transition short. Thrust and pitch stay. No machine refuses a cut.
-    pub fn cut(self, why: ModeRefusal) -> JoinedUpdate
+    pub fn cut(self, why: ModeRefusal) -> Update<Joined, Line>
         ensures { result ≡ cut_of self why }
     {
-        let machine = self.machine;
-        let update = machine.cut_short(why);
-        let machine = update.machine;
-        let answer = update.answer;
-        match answer {
-            TransitionAnswer::Step(step) => {
+        let update = self.machine.cut_short(why);
+        match update.answer {
+            Ok(step) => {
+                let machine = update.state;
                 let handoff = self.handoff_if(step.handoff, machine);
-                Joined {
+                let next = Joined {
                     machine,
                     handoff,
                     ..self
-                }
-                .answered(step)
+                };
+                next.answered(step)
             }
-            TransitionAnswer::Refused(refusal) => self.refused(refusal),
+            Err(refusal) => Update::refused(self, refusal),
         }
     }
 
     // New settings, or refusal 3 with the field; nothing else changes.
-    pub fn set(self, settings: Settings) -> JoinedUpdate
+    pub fn set(self, settings: Settings) -> Update<Joined, Line>
         ensures { result ≡ set_of self settings }
     {
-        let machine = self.machine;
-        let update = machine.set_config(settings);
-        let machine = update.machine;
-        let answer = update.answer;
-        self.answered_if(answer, Joined { machine, ..self })
+        let update = self.machine.set_config(settings);
+        let machine = update.state;
+        self.answered_if(update.answer, Joined { machine, ..self })
     }
 
     // Any call.
-    pub fn call(self, call: Call) -> JoinedUpdate
+    pub fn call(self, call: Call) -> Update<Joined, Line>
         ensures { result ≡ call_of self call }
     {
         match call {
@@ -225,11 +192,11 @@ impl Joined {
     }
 
     // The thin entry: one step of the state in the caller's own record.
-    pub fn enter(&mut self, input: StepInput) -> Answer
+    pub fn enter(&mut self, input: StepInput) -> Result<Line, InputRefusal>
         ensures { EntrySays self.old input self.new result }
     {
-        let update = (*self).step(input);
-        *self = update.joined;
+        let update = self.step(input);
+        *self = update.state;
         update.answer
     }
 }

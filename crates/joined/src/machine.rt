@@ -1,18 +1,20 @@
 // Either transition machine, with its own settings.
 ghost use Rattle.std.specs.Prelude.{◌≡◌, if◌then◌else◌};
-ghost use Rattle.joined.specs.declared.machine.Airframe.TheVariants as airframe;
-ghost use Rattle.joined.specs.Machine.{new_machine_of, mode_of, prime_machine_of, set_machine_of, update_machine_of, cut_machine_of, handoff_time_of, roll_limit_of, transitioning, abs_of, past_roll_limit_of, of_transition, of_lift, accepted};
+ghost use Rattle.std.specs.Result.{ForOk, IsOkAnd, MatchResult};
+ghost use Rattle.machines.specs.Rows.{accepted};
+ghost use Rattle.joined.specs.Machine.{new_machine_of, mode_of, prime_machine_of, set_machine_of, update_machine_of, cut_machine_of, handoff_time_of, roll_limit_of, transitioning, abs_of, past_roll_limit_of};
 
 use crate::call::StepInput;
 use crate::settings::Settings;
-use machines::answer::TransitionAnswer;
-use machines::lift::{LiftTransition, LiftTransitionUpdate, NewLiftTransition};
-use machines::vtol::{NewTransition, Transition, TransitionUpdate};
+use machines::answer::{TransitionStep, Update};
+use machines::lift::LiftTransition;
+use machines::settings::{LiftTransitionConfig, TransitionConfig};
+use machines::vtol::Transition;
 use machines::{FlightMode, InputRefusal, ModeRefusal};
 use numbers::logic::both;
 
 // Which aircraft: fixed when the joined machine is made.
-#[derive(Clone, Copy)]
+#[derive(Clone, Copy, Debug, PartialEq, Eq)]
 pub enum Airframe {
     Tailsitter,
     Quadplane,
@@ -25,54 +27,32 @@ pub enum Machine {
     Quadplane(LiftTransition),
 }
 
-// The machine after a call, with its answer.
-#[derive(Clone, Copy)]
-pub(crate) struct MachineUpdate {
-    pub machine: Machine,
-    pub answer: TransitionAnswer,
-}
-
-// A new machine, or why there is none.
-#[derive(Clone, Copy)]
-pub(crate) enum NewMachine {
-    Refused(InputRefusal),
-    Machine(Machine),
-}
-
-impl MachineUpdate {
-    // This update, or the machine cut short if it has rolled past the limit in a transition.
-    pub(crate) fn cut_or(self, machine: Machine, bank_rad: f32) -> MachineUpdate
-        ensures { result ≡ (if past_roll_limit_of machine bank_rad then accepted (cut_machine_of machine ModeRefusal.RollError) else self) }
-    {
-        if machine.past_roll_limit(bank_rad) {
-            machine.cut_short(ModeRefusal::RollError)
-        } else {
-            self
-        }
+// The update of one kind of machine as one of either, by the variant that wraps it.
+pub(crate) fn of_either<M, F: FnOnce(M) -> Machine>(
+    update: Update<M, TransitionStep>,
+    wrap: F,
+) -> Update<Machine, TransitionStep>
+    requires { F.pre wrap update.state }
+    ensures state { F.post wrap update.state result.state }
+    ensures answer { result.answer ≡ update.answer }
+{
+    Update {
+        state: wrap(update.state),
+        answer: update.answer,
     }
 }
 
-// The update of a tailsitter's machine as one of either.
-pub(crate) fn of_transition(update: TransitionUpdate) -> MachineUpdate
-    ensures { result ≡ of_transition update }
+// A new machine of one kind as one of either, or why there is none. `Result::map` would do it, but no law of `list_theorem` can name core's code.
+pub(crate) fn new_either<M, F: FnOnce(M) -> Machine>(
+    made: Result<M, InputRefusal>,
+    wrap: F,
+) -> Result<Machine, InputRefusal>
+    requires { ForOk made (F.pre wrap) }
+    ensures { MatchResult made (λ m. IsOkAnd result (F.post wrap m)) (λ why. result ≡ Err why) }
 {
-    let machine = update.machine;
-    let answer = update.answer;
-    MachineUpdate {
-        machine: Machine::Tailsitter(machine),
-        answer,
-    }
-}
-
-// The update of a quadplane's machine as one of either.
-pub(crate) fn of_lift(update: LiftTransitionUpdate) -> MachineUpdate
-    ensures { result ≡ of_lift update }
-{
-    let machine = update.machine;
-    let answer = update.answer;
-    MachineUpdate {
-        machine: Machine::Quadplane(machine),
-        answer,
+    match made {
+        Ok(m) => Ok(wrap(m)),
+        Err(why) => Err(why),
     }
 }
 
@@ -80,69 +60,43 @@ pub(crate) fn of_lift(update: LiftTransitionUpdate) -> MachineUpdate
 pub(crate) fn is_transition(mode: FlightMode) -> bool
     ensures { result ≡ transitioning mode }
 {
-    match mode {
-        FlightMode::ToPlane => true,
-        FlightMode::ToCopter => true,
-        FlightMode::Copter => false,
-        FlightMode::Plane => false,
-    }
+    matches!(mode, FlightMode::ToPlane | FlightMode::ToCopter)
 }
 
-// The absolute value of a number. A NaN stays.
+// The absolute value of a number. A NaN stays. It is not core's `f32::abs`, whose code no law of `list_theorem` can name.
 pub(crate) fn abs(x: f32) -> f32
     ensures { result ≡ abs_of x }
 {
     if x < 0.0 { -x } else { x }
 }
 
-// A new tailsitter's machine with these settings.
-pub(crate) fn new_tailsitter(settings: Settings) -> NewMachine
-    ensures { result ≡ new_machine_of airframe.Tailsitter settings }
-{
-    let made = Transition::new(settings.transition_config());
-    match made {
-        NewTransition::Machine(m) => NewMachine::Machine(Machine::Tailsitter(m)),
-        NewTransition::Refused(why) => NewMachine::Refused(why),
-    }
-}
-
-// A new quadplane's machine with these settings.
-pub(crate) fn new_quadplane(settings: Settings) -> NewMachine
-    ensures { result ≡ new_machine_of airframe.Quadplane settings }
-{
-    let made = LiftTransition::new(settings.lift_transition_config());
-    match made {
-        NewLiftTransition::Machine(m) => NewMachine::Machine(Machine::Quadplane(m)),
-        NewLiftTransition::Refused(why) => NewMachine::Refused(why),
-    }
-}
-
 impl Airframe {
     // A new machine with these settings.
-    pub(crate) fn machine(self, settings: Settings) -> NewMachine
+    pub(crate) fn machine(self, settings: Settings) -> Result<Machine, InputRefusal>
         ensures { result ≡ new_machine_of self settings }
     {
         match self {
-            Airframe::Tailsitter => new_tailsitter(settings),
-            Airframe::Quadplane => new_quadplane(settings),
+            Airframe::Tailsitter => new_either(
+                Transition::new(TransitionConfig::from(settings)),
+                Machine::Tailsitter,
+            ),
+            Airframe::Quadplane => new_either(
+                LiftTransition::new(LiftTransitionConfig::from(settings)),
+                Machine::Quadplane,
+            ),
         }
     }
 }
 
+// Each method asks the machine that it is, by a match. A trait of both kinds would write each method twice more, in its two impls.
 impl Machine {
     // What is flown.
     pub(crate) fn mode(self) -> FlightMode
         ensures { result ≡ mode_of self }
     {
         match self {
-            Machine::Tailsitter(m) => {
-                let state = m.state;
-                state.mode
-            }
-            Machine::Quadplane(m) => {
-                let state = m.state;
-                state.mode
-            }
+            Machine::Tailsitter(m) => m.state.mode,
+            Machine::Quadplane(m) => m.state.mode,
         }
     }
 
@@ -167,46 +121,55 @@ impl Machine {
     }
 
     // Copter, with z as the height reference.
-    pub(crate) fn prime(self, z_m: f32) -> MachineUpdate
+    pub(crate) fn prime(self, z_m: f32) -> Update<Machine, TransitionStep>
         ensures { result ≡ accepted (prime_machine_of self z_m) }
     {
         match self {
-            Machine::Tailsitter(m) => of_transition(m.prime(z_m)),
-            Machine::Quadplane(m) => of_lift(m.prime(z_m)),
+            Machine::Tailsitter(m) => of_either(m.prime(z_m), Machine::Tailsitter),
+            Machine::Quadplane(m) => of_either(m.prime(z_m), Machine::Quadplane),
         }
     }
 
     // New settings, or their refusal.
-    pub(crate) fn set_config(self, settings: Settings) -> MachineUpdate
+    pub(crate) fn set_config(self, settings: Settings) -> Update<Machine, TransitionStep>
         ensures { result ≡ set_machine_of self settings }
     {
         match self {
-            Machine::Tailsitter(m) => of_transition(m.set_config(settings.transition_config())),
-            Machine::Quadplane(m) => of_lift(m.set_config(settings.lift_transition_config())),
+            Machine::Tailsitter(m) => of_either(
+                m.set_config(TransitionConfig::from(settings)),
+                Machine::Tailsitter,
+            ),
+            Machine::Quadplane(m) => of_either(
+                m.set_config(LiftTransitionConfig::from(settings)),
+                Machine::Quadplane,
+            ),
         }
     }
 
     // One update, with refusals 1 and 2.
-    pub(crate) fn update(self, input: StepInput) -> MachineUpdate
+    pub(crate) fn update(self, input: StepInput) -> Update<Machine, TransitionStep>
         ensures { result ≡ update_machine_of self input }
     {
         let requested = input.requested;
-        let state = input.state;
         match self {
-            Machine::Tailsitter(m) => {
-                of_transition(m.update(input.dt, requested, state, input.entry_tilt_rad))
-            }
-            Machine::Quadplane(m) => of_lift(m.update(input.dt, requested, state)),
+            Machine::Tailsitter(m) => of_either(
+                m.update(input.dt, requested, input.state, input.entry_tilt_rad),
+                Machine::Tailsitter,
+            ),
+            Machine::Quadplane(m) => of_either(
+                m.update(input.dt, requested, input.state),
+                Machine::Quadplane,
+            ),
         }
     }
 
     // Cuts a transition short.
-    pub(crate) fn cut_short(self, why: ModeRefusal) -> MachineUpdate
+    pub(crate) fn cut_short(self, why: ModeRefusal) -> Update<Machine, TransitionStep>
         ensures { result ≡ accepted (cut_machine_of self why) }
     {
         match self {
-            Machine::Tailsitter(m) => of_transition(m.cut_short(why)),
-            Machine::Quadplane(m) => of_lift(m.cut_short(why)),
+            Machine::Tailsitter(m) => of_either(m.cut_short(why), Machine::Tailsitter),
+            Machine::Quadplane(m) => of_either(m.cut_short(why), Machine::Quadplane),
         }
     }
 
@@ -218,5 +181,20 @@ impl Machine {
             is_transition(self.mode()),
             abs(bank_rad) > self.roll_limit_rad(),
         )
+    }
+
+    // An update of this machine, or its cut if it has rolled past the limit in a transition.
+    pub(crate) fn cut_or(
+        self,
+        bank_rad: f32,
+        update: Update<Machine, TransitionStep>,
+    ) -> Update<Machine, TransitionStep>
+        ensures { result ≡ (if past_roll_limit_of self bank_rad then accepted (cut_machine_of self ModeRefusal.RollError) else update) }
+    {
+        if self.past_roll_limit(bank_rad) {
+            self.cut_short(ModeRefusal::RollError)
+        } else {
+            update
+        }
     }
 }

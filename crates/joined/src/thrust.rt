@@ -1,75 +1,114 @@
 // The handoff, the pitch and the thrust of a step (document 01, sections 5 and 6; document 02, 2.2).
 ghost use Rattle.std.specs.Prelude.{◌≡◌};
-ghost use Rattle.joined.specs.Machine.{mode_is};
 ghost use Rattle.joined.specs.Joined.{fresh_handoff, entered, starts_handoff, entry_pitch, decelerated, stepped_pitch, blended, back_thrust_of, tailsitter_thrust, run_up, quadplane_thrust, thrust_of};
 
-use crate::answer::letter;
 use crate::call::StepInput;
 use crate::machine::Machine;
 use machines::FlightMode;
 use machines::deceleration::BackDeceleration;
-use machines::handoff::{ThrustAnswer, ThrustHandoff};
+use machines::handoff::ThrustHandoff;
 use machines::settings::{LiftTransitionConfig, TransitionConfig};
-use machines::sink::{GuardedThrust, guard_sink};
+use machines::sink::guard_sink;
 use numbers::logic::{both, either};
 use numbers::math::min;
 
-// A step's thrust, and the handoff after it.
+// The modes before and after a step.
+#[derive(Clone, Copy)]
+pub(crate) struct Modes {
+    pub before: FlightMode,
+    pub after: FlightMode,
+}
+
+impl Modes {
+    // Whether the step entered a mode. In place of `!=`, which calls core's `ne`: no law of `list_theorem` can name that.
+    pub(crate) fn entered(self, mode: FlightMode) -> bool
+        ensures { result ≡ entered mode self.before self.after }
+    {
+        both(!(self.before == mode), self.after == mode)
+    }
+
+    // Whether the step starts a handoff: by its flag, or by entering Plane.
+    pub(crate) fn starts_handoff(self, flag: bool) -> bool
+        ensures { result ≡ starts_handoff self.before self.after flag }
+    {
+        either(flag, self.entered(FlightMode::Plane))
+    }
+
+    // Entering ToCopter sets the pitch 0.
+    pub(crate) fn entry_pitch(self, pitch: BackDeceleration) -> BackDeceleration
+        ensures { result ≡ entry_pitch self.before self.after pitch }
+    {
+        if self.entered(FlightMode::ToCopter) {
+            BackDeceleration::new()
+        } else {
+            pitch
+        }
+    }
+}
+
+// A step's thrust, and the handoff after it; before the step, the kept thrust and the handoff that it goes on with.
 #[derive(Clone, Copy)]
 pub(crate) struct Thrusted {
     pub handoff: ThrustHandoff,
     pub thrust: f32,
 }
 
-// Whether two modes are the same.
-pub(crate) fn is_mode(mode: FlightMode, other: FlightMode) -> bool
-    ensures { result ≡ mode_is mode other }
-{
-    letter(mode) == letter(other)
-}
-
-// Whether a step entered a mode.
-pub(crate) fn entered(mode: FlightMode, before: FlightMode, after: FlightMode) -> bool
-    ensures { result ≡ entered mode before after }
-{
-    both(!is_mode(mode, before), is_mode(mode, after))
-}
-
-// Whether a step starts a handoff: by its flag, or by entering Plane.
-pub(crate) fn starts_handoff(before: FlightMode, after: FlightMode, flag: bool) -> bool
-    ensures { result ≡ starts_handoff before after flag }
-{
-    either(flag, entered(FlightMode::Plane, before, after))
-}
-
-// Entering ToCopter sets the pitch 0.
-pub(crate) fn entry_pitch(
-    before: FlightMode,
-    after: FlightMode,
-    pitch: BackDeceleration,
-) -> BackDeceleration
-    ensures { result ≡ entry_pitch before after pitch }
-{
-    if entered(FlightMode::ToCopter, before, after) {
-        BackDeceleration::new()
-    } else {
-        pitch
+impl Thrusted {
+    // The demand, through the handoff. An accepted dt is never refused here.
+    pub(crate) fn blend(self, input: StepInput) -> Thrusted
+        ensures { result ≡ blended self.handoff input }
+    {
+        let applied = self.handoff.apply(input.dt, input.demand);
+        Thrusted {
+            handoff: applied.state,
+            // no `unwrap_or`: `list_theorem` needs the code of all that this calls, and core's cannot be named there
+            thrust: match applied.answer {
+                Ok(thrust) => thrust,
+                Err(_) => 0.0,
+            },
+        }
     }
-}
 
-// The demand, through the handoff. An accepted dt is never refused here.
-pub(crate) fn blend(handoff: ThrustHandoff, input: StepInput) -> Thrusted
-    ensures { result ≡ blended handoff input }
-{
-    let applied = handoff.apply(input.dt, input.demand);
-    let handoff = applied.handoff;
-    let answer = applied.answer;
-    match answer {
-        ThrustAnswer::Thrust(thrust) => Thrusted { handoff, thrust },
-        ThrustAnswer::Refused(_) => Thrusted {
-            handoff,
-            thrust: 0.0,
-        },
+    // The tailsitter's thrust, by the mode after the step.
+    pub(crate) fn tailsitter_thrust(
+        self,
+        after: FlightMode,
+        config: TransitionConfig,
+        input: StepInput,
+    ) -> Thrusted
+        ensures { result ≡ tailsitter_thrust after config self.handoff input }
+    {
+        match after {
+            FlightMode::ToPlane => Thrusted {
+                thrust: config.forward_thrust,
+                ..self
+            },
+            FlightMode::ToCopter => Thrusted {
+                thrust: back_thrust(config, input.state.velocity_mps.z),
+                ..self
+            },
+            FlightMode::Copter | FlightMode::Plane => self.blend(input),
+        }
+    }
+
+    // The quadplane's thrust, by the mode after the step. In ToPlane a running handoff stands still.
+    pub(crate) fn quadplane_thrust(
+        self,
+        after: FlightMode,
+        enters: bool,
+        config: LiftTransitionConfig,
+        input: StepInput,
+    ) -> Thrusted
+        ensures { result ≡ quadplane_thrust after enters config self.thrust self.handoff input }
+    {
+        if after == FlightMode::ToPlane {
+            Thrusted {
+                thrust: run_up(enters, config, self.thrust, input.dt),
+                ..self
+            }
+        } else {
+            self.blend(input)
+        }
     }
 }
 
@@ -83,32 +122,10 @@ pub(crate) fn back_thrust(config: TransitionConfig, climb_mps: f32) -> f32
         config.back_sink_limit_mps,
         config.back_sink_gain,
     );
+    // no `unwrap_or`, as in `blend`
     match guarded {
-        GuardedThrust::Thrust(thrust) => thrust,
-        GuardedThrust::None => config.back_thrust,
-    }
-}
-
-// The tailsitter's thrust, by the mode after the step.
-pub(crate) fn tailsitter_thrust(
-    after: FlightMode,
-    config: TransitionConfig,
-    handoff: ThrustHandoff,
-    input: StepInput,
-) -> Thrusted
-    ensures { result ≡ tailsitter_thrust after config handoff input }
-{
-    match after {
-        FlightMode::ToPlane => Thrusted {
-            handoff,
-            thrust: config.forward_thrust,
-        },
-        FlightMode::ToCopter => Thrusted {
-            handoff,
-            thrust: back_thrust(config, input.state.velocity_mps.z),
-        },
-        FlightMode::Copter => blend(handoff, input),
-        FlightMode::Plane => blend(handoff, input),
+        Some(thrust) => thrust,
+        None => config.back_thrust,
     }
 }
 
@@ -120,27 +137,6 @@ pub(crate) fn run_up(enters: bool, config: LiftTransitionConfig, kept: f32, dt: 
         0.0
     } else {
         min(config.forward_thrust, kept + config.pusher_slew_per_s * dt)
-    }
-}
-
-// The quadplane's thrust, by the mode after the step. In ToPlane a running handoff stands still.
-pub(crate) fn quadplane_thrust(
-    after: FlightMode,
-    enters: bool,
-    config: LiftTransitionConfig,
-    kept: f32,
-    handoff: ThrustHandoff,
-    input: StepInput,
-) -> Thrusted
-    ensures { result ≡ quadplane_thrust after enters config kept handoff input }
-{
-    if is_mode(FlightMode::ToPlane, after) {
-        Thrusted {
-            handoff,
-            thrust: run_up(enters, config, kept, input.dt),
-        }
-    } else {
-        blend(handoff, input)
     }
 }
 
@@ -159,15 +155,11 @@ impl Machine {
         match self {
             Machine::Tailsitter(_) => pitch,
             Machine::Quadplane(m) => {
-                let state = input.state;
-                let config = m.config;
-                let update = pitch.pitch_rad(
-                    input.dt,
-                    state,
-                    config.back_decel_mps2,
-                    config.back_decel_i,
-                );
-                update.deceleration
+                let target_mps2 = m.config.back_decel_mps2;
+                let gain = m.config.back_decel_i;
+                pitch
+                    .pitch_rad(input.dt, input.state, target_mps2, gain)
+                    .state
             }
         }
     }
@@ -181,7 +173,7 @@ impl Machine {
     ) -> BackDeceleration
         ensures { result ≡ stepped_pitch after self input pitch }
     {
-        if is_mode(FlightMode::ToCopter, after) {
+        if after == FlightMode::ToCopter {
             self.decelerated(input, pitch)
         } else {
             pitch
@@ -189,25 +181,14 @@ impl Machine {
     }
 
     // The thrust, by airframe, the modes before and after the step, and the kept thrust.
-    pub(crate) fn thrust(
-        self,
-        before: FlightMode,
-        after: FlightMode,
-        kept: f32,
-        handoff: ThrustHandoff,
-        input: StepInput,
-    ) -> Thrusted
-        ensures { result ≡ thrust_of self before after kept handoff input }
+    pub(crate) fn thrust(self, modes: Modes, kept: Thrusted, input: StepInput) -> Thrusted
+        ensures { result ≡ thrust_of self modes.before modes.after kept.thrust kept.handoff input }
     {
         match self {
-            Machine::Tailsitter(m) => {
-                let config = m.config;
-                tailsitter_thrust(after, config, handoff, input)
-            }
+            Machine::Tailsitter(m) => kept.tailsitter_thrust(modes.after, m.config, input),
             Machine::Quadplane(m) => {
-                let config = m.config;
-                let enters = entered(FlightMode::ToPlane, before, after);
-                quadplane_thrust(after, enters, config, kept, handoff, input)
+                let enters = modes.entered(FlightMode::ToPlane);
+                kept.quadplane_thrust(modes.after, enters, m.config, input)
             }
         }
     }

@@ -1,11 +1,9 @@
 -- Document 01, section 2: the settings, and those of the split (section 8). Definitions only. Assumes nothing.
-use Rattle.std.specs.Prelude.{Bool, List, [], ◌∷◌, ℕ, if◌then◌else◌}
+use Rattle.std.specs.Prelude.{Bool, List, [], ◌∷◌, ℕ, if◌then◌else◌, ⊤, Result, Ok, Err}
 use Rattle.numbers.specs.Numbers.{float_of, zero32}
 use Rattle.numbers.specs.Ranges.{limit, positive, unit, unit_above_zero, quarter_turn, quarter_turn_closed, quarter_turn_from_zero, half_turn}
 use Rattle.machines.specs.declared.InputRefusal.{InputRefusal}
 use Rattle.machines.specs.declared.InputRefusal.TheVariants.{Setting}
-use Rattle.machines.specs.declared.settings.Validity.{Validity}
-use Rattle.machines.specs.declared.settings.Validity.TheVariants.{Valid, Bad}
 use Rattle.machines.specs.declared.settings.TransitionConfig.{TransitionConfig}
 use Rattle.machines.specs.declared.settings.LiftTransitionConfig.{LiftTransitionConfig}
 use Rattle.machines.specs.declared.settings.ForwardThrustConfig.{ForwardThrustConfig}
@@ -16,9 +14,9 @@ pub record Test : Type 0 where
   pub refusal : InputRefusal
 
 -- "fields are checked in the order of the struct": the first test that fails decides
-abbrev pub verdict : List Test → Validity
-verdict [] = Valid
-verdict (t ∷ ts) = if t.passed then verdict ts else Bad t.refusal
+abbrev pub verdict : List Test → Result ⊤ InputRefusal
+verdict [] = Ok tt
+verdict (t ∷ ts) = if t.passed then verdict ts else Err t.refusal
 
 -- "the first bad one named by position from 1": field n is in its range, or refused by 3 with n
 infix 90 field◌is◌
@@ -47,7 +45,7 @@ transition_tests c =
     ∷ field 17 is unit_above_zero c.back_done_cosine
     ∷ []
 
-abbrev pub transition_validity : TransitionConfig → Validity
+abbrev pub transition_validity : TransitionConfig → Result ⊤ InputRefusal
 transition_validity c = verdict (transition_tests c)
 
 -- "quadplane: 2, 3, 6, 8, 12 positive; 1, 4, 5, 7, 9, 10, 14 limits; 11 in [0, 1]; 13 in (0, π/2); 15 in (0, π]"
@@ -70,14 +68,14 @@ lift_tests c =
     ∷ field 15 is half_turn c.roll_limit_rad
     ∷ []
 
-abbrev pub lift_validity : LiftTransitionConfig → Validity
+abbrev pub lift_validity : LiftTransitionConfig → Result ⊤ InputRefusal
 lift_validity c = verdict (lift_tests c)
 
 -- the split (section 8): "1 gain a limit, 2 limit in [0, π/2)"
 abbrev pub forward_thrust_tests : ForwardThrustConfig → List Test
 forward_thrust_tests c = field 1 is limit c.gain ∷ field 2 is quarter_turn_from_zero c.pitch_limit_rad ∷ []
 
-abbrev pub forward_thrust_validity : ForwardThrustConfig → Validity
+abbrev pub forward_thrust_validity : ForwardThrustConfig → Result ⊤ InputRefusal
 forward_thrust_validity c = verdict (forward_thrust_tests c)
 
 -- ---- the Rust's default settings, by their bits; 16 and 17 are the cosine of the default done angles

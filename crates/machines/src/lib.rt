@@ -21,19 +21,19 @@ pub mod vtol;
 
 ghost use Rattle.std.specs.Prelude.{◌≡◌};
 ghost use Rattle.machines.specs.Gate.{valid_airspeed_of, at_least_or};
-ghost use Rattle.machines.specs.Refusals.{reason_of, report_of, refusal_of, field_of};
+ghost use Rattle.machines.specs.Refusals.{reason_of, Reads, report_of, refusal_of, field_of};
 
 use numbers::vector::{Quaternion, Vec2, Vec3};
 
 // What is requested.
-#[derive(Clone, Copy)]
+#[derive(Clone, Copy, Debug, PartialEq, Eq)]
 pub enum FlightRegime {
     Copter,
     Plane,
 }
 
 // What is flown.
-#[derive(Clone, Copy)]
+#[derive(Clone, Copy, Debug, PartialEq, Eq)]
 pub enum FlightMode {
     Copter,
     Plane,
@@ -42,7 +42,7 @@ pub enum FlightMode {
 }
 
 // Why the requested regime is not flown: 11 to 16 of document 01, section 10.
-#[derive(Clone, Copy)]
+#[derive(Clone, Copy, Debug, PartialEq, Eq)]
 pub enum ModeRefusal {
     Unsupported,
     OnGround,
@@ -52,15 +52,12 @@ pub enum ModeRefusal {
     BelowPlaneMinAltitude,
 }
 
-// The report, or the abandonment, if any.
-#[derive(Clone, Copy)]
-pub enum MaybeRefusal {
-    None,
-    Some(ModeRefusal),
-}
+// A number that names no reason.
+#[derive(Clone, Copy, Debug, PartialEq, Eq)]
+pub struct UnknownReason(pub u8);
 
 // Why a call is turned down: 1 to 5 of document 01, section 9. A setting has its field, from 1.
-#[derive(Clone, Copy)]
+#[derive(Clone, Copy, Debug, PartialEq, Eq)]
 pub enum InputRefusal {
     TimeStep,
     EntryTilt,
@@ -69,62 +66,43 @@ pub enum InputRefusal {
     Tangent,
 }
 
-// What the airspeed sensor gives.
-#[derive(Clone, Copy)]
-pub enum Airspeed {
-    Absent,
-    Present(f32),
-}
-
-// An airspeed reading: a valid speed or none.
-#[derive(Clone, Copy)]
-pub enum AirspeedReading {
-    None,
-    Valid(f32),
-}
-
 // What a machine is told of the vehicle: any numbers. Position and velocity are north, east, up, and the acceleration is the horizontal one.
-// The attitude turns body axes (x the nose, y right, z down) into north, east, down.
+// The airspeed is what the sensor gives, if it gives one. The attitude turns body axes (x the nose, y right, z down) into north, east, down.
 #[derive(Clone, Copy)]
 pub struct VehicleState {
     pub z_m: f32,
     pub velocity_mps: Vec3,
     pub acceleration_mps2: Vec2,
     pub attitude: Quaternion,
-    pub airspeed: Airspeed,
+    pub airspeed: Option<f32>,
 }
 
 impl VehicleState {
-    // The airspeed that is present and at least 0.
-    pub fn valid_airspeed_mps(self) -> AirspeedReading
+    // The airspeed reading: the airspeed that is present and at least 0, or none.
+    pub fn valid_airspeed_mps(self) -> Option<f32>
         ensures { result ≡ valid_airspeed_of self }
     {
-        let airspeed = self.airspeed;
-        let Airspeed::Present(airspeed_mps) = airspeed else {
-            return AirspeedReading::None;
-        };
-        if airspeed_mps >= 0.0 {
-            AirspeedReading::Valid(airspeed_mps)
-        } else {
-            AirspeedReading::None
+        // no `filter`: `list_theorem` needs the code of all that this calls, and core's cannot be named there
+        match self.airspeed {
+            Some(airspeed_mps) if airspeed_mps >= 0.0 => Some(airspeed_mps),
+            _ => None,
         }
     }
 }
 
-impl AirspeedReading {
-    // Whether a valid airspeed is at least the minimum; without one the answer is `if_none`. One function for both machines: as two, the quadplane's steps took longer.
-    pub(crate) fn at_least_or(self, min_airspeed_mps: f32, if_none: bool) -> bool
-        ensures { result ≡ at_least_or self min_airspeed_mps if_none }
-    {
-        match self {
-            AirspeedReading::None => if_none,
-            AirspeedReading::Valid(airspeed_mps) => airspeed_mps >= min_airspeed_mps,
-        }
+// Whether a valid airspeed is at least the minimum; without one the answer is `if_none`. One function for both machines: as two, the quadplane's steps took longer.
+pub(crate) fn at_least_or(airspeed: Option<f32>, min_airspeed_mps: f32, if_none: bool) -> bool
+    ensures { result ≡ at_least_or airspeed min_airspeed_mps if_none }
+{
+    // no `map_or`, for `list_theorem` as above
+    match airspeed {
+        Some(airspeed_mps) => airspeed_mps >= min_airspeed_mps,
+        None => if_none,
     }
 }
 
 impl ModeRefusal {
-    // The number of document 01, section 10.
+    // The number of document 01, section 10. No `From<ModeRefusal> for u8`: the contracts speak of it by `reason_of`, and the name says which number it is.
     pub fn number(self) -> u8
         ensures { result ≡ reason_of self }
     {
@@ -139,16 +117,30 @@ impl ModeRefusal {
     }
 }
 
-impl MaybeRefusal {
-    // The number of document 01, section 10; 0 for none.
-    pub fn number(self) -> u8
-        ensures { result ≡ report_of self }
-    {
-        match self {
-            MaybeRefusal::None => 0,
-            MaybeRefusal::Some(why) => why.number(),
+impl TryFrom<u8> for ModeRefusal {
+    type Error = UnknownReason;
+
+    ghost try_from_gives = { Reads };
+
+    // The reason with this number.
+    fn try_from(number: u8) -> Result<ModeRefusal, UnknownReason> {
+        match number {
+            11 => Ok(ModeRefusal::Unsupported),
+            12 => Ok(ModeRefusal::OnGround),
+            13 => Ok(ModeRefusal::BelowMinAltitude),
+            14 => Ok(ModeRefusal::TransitionTimeout),
+            15 => Ok(ModeRefusal::RollError),
+            16 => Ok(ModeRefusal::BelowPlaneMinAltitude),
+            _ => Err(UnknownReason(number)),
         }
     }
+}
+
+// The number of a report, of document 01, section 10; 0 for none.
+pub fn report_number(refusal: Option<ModeRefusal>) -> u8
+    ensures { result ≡ report_of refusal }
+{
+    refusal.map_or(0, |why| why.number())
 }
 
 impl InputRefusal {
@@ -171,10 +163,7 @@ impl InputRefusal {
     {
         match self {
             InputRefusal::Setting(field) => field,
-            InputRefusal::TimeStep => 0,
-            InputRefusal::EntryTilt => 0,
-            InputRefusal::HandoffDuration => 0,
-            InputRefusal::Tangent => 0,
+            _ => 0,
         }
     }
 }

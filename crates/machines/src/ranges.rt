@@ -4,15 +4,14 @@ ghost use Rattle.machines.specs.Settings.{verdict};
 ghost use Rattle.machines.specs.RangeTable.{is_under, contains, range_tests};
 
 use crate::InputRefusal;
-use crate::settings::Validity;
 use numbers::bits::from_bits;
 use numbers::logic::both;
 
-// A field's range: the low end's bits and whether that end counts, then the high end's.
+// A field's range: the low end's bits and whether that end counts, then the high end's. No `Bound`s: document 01 names the table so, of bits and flags.
 #[derive(Clone, Copy)]
 pub(crate) struct Range(u32, bool, u32, bool);
 
-// The row of each airframe's field 1; its field n stands n - 1 rows after it.
+// The row of each airframe's field 1; its field n stands n - 1 rows after it. One table for both airframes, looked up by number: document 01 names it so.
 pub(crate) const TAILSITTER: usize = 0;
 
 pub(crate) const QUADPLANE: usize = 17;
@@ -75,16 +74,17 @@ impl Range {
 }
 
 // The verdict on an airframe's settings in the order of its fields; `first` is the row of field 1. The first that is not in its range is named by its position from 1.
-pub(crate) fn validate_ranges(first: usize, settings: &[f32]) -> Validity
+pub(crate) fn validate_ranges(first: usize, settings: &[f32]) -> Result<(), InputRefusal>
     requires { first + length settings.now ≤ 32 }
     ensures { result ≡ verdict (range_tests first 0 settings.now) }
 {
+    // The table is taken once, and its rows are looked up by the fields' numbers: `RANGES[..]` in the loop would put all its rows on the stack for each field,
+    // in 8 times the instructions.
     let ranges = RANGES;
-    for i in 0..settings.len() {
-        let range = ranges[first + i];
-        if !range.contains(settings[i]) {
-            return Validity::Bad(InputRefusal::Setting((i + 1) as u8));
+    for (i, setting) in settings.iter().enumerate() {
+        if !ranges[first + i].contains(*setting) {
+            return Err(InputRefusal::Setting((i + 1) as u8));
         }
     }
-    Validity::Valid
+    Ok(())
 }

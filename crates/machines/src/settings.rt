@@ -57,13 +57,6 @@ pub struct ForwardThrustConfig {
     pub pitch_limit_rad: f32,
 }
 
-// What a check of settings finds: that they are good, or the refusal of the first test that fails.
-#[derive(Clone, Copy)]
-pub enum Validity {
-    Valid,
-    Bad(InputRefusal),
-}
-
 // The Rust's default settings, with the cosines of its default done angles.
 pub const TRANSITION_DEFAULTS: TransitionConfig = TransitionConfig {
     forward_rate_radps: 0.87266463,
@@ -87,7 +80,8 @@ pub const TRANSITION_DEFAULTS: TransitionConfig = TransitionConfig {
 
 impl TransitionConfig {
     // The first field out of its range, if any.
-    pub fn validate(self) -> Validity
+    #[tactic(auto, using(crate::proofs::Laws::RangeTable::tailsitter_ranges))]
+    pub fn validate(self) -> Result<(), InputRefusal>
         ensures { result ≡ transition_validity self }
     {
         let settings = [
@@ -141,7 +135,8 @@ pub const LIFT_TRANSITION_DEFAULTS: LiftTransitionConfig = LiftTransitionConfig 
 
 impl LiftTransitionConfig {
     // The first field out of its range, if any.
-    pub fn validate(self) -> Validity
+    #[tactic(auto, using(crate::proofs::Laws::RangeTable::quadplane_ranges))]
+    pub fn validate(self) -> Result<(), InputRefusal>
         ensures { result ≡ lift_validity self }
     {
         let settings = [
@@ -174,15 +169,15 @@ impl LiftTransitionConfig {
 
 impl ForwardThrustConfig {
     // The first field out of its range, if any.
-    pub fn validate(self) -> Validity
+    pub fn validate(self) -> Result<(), InputRefusal>
         ensures { result ≡ forward_thrust_validity self }
     {
         if !is_limit(self.gain) {
-            return Validity::Bad(InputRefusal::Setting(1));
+            return Err(InputRefusal::Setting(1));
         }
         if !is_quarter_turn_from_zero(self.pitch_limit_rad) {
-            return Validity::Bad(InputRefusal::Setting(2));
+            return Err(InputRefusal::Setting(2));
         }
-        Validity::Valid
+        Ok(())
     }
 }

@@ -2,167 +2,144 @@
 ghost use Rattle.std.specs.Prelude.{◌<◌};
 
 use crate::kept::Kept;
-use crate::record::number;
-use crate::show::{END, SPACE};
-use crate::{hold, record, settings, show};
-use machines::VehicleState;
-use machines::forward::{ForwardThrust, NewForwardThrust, SplitAnswer};
+use crate::kind::NoAnswer;
+use crate::line::Line;
+use crate::values::{horizontal, numbers, still};
+use crate::{hold, settings};
+use machines::forward::ForwardThrust;
+use machines::hold::FallbackHold;
 use machines::quadplane::{forward_pitch_limit_rad, forward_pitch_rad};
 use machines::setpoint::{
     AttitudeSetpoint, BlendSetpoint, BodyRateSetpoint, PlaneSetpoint, RateSetpoint, Setpoint,
 };
-use std::io::Write;
+use machines::{InputRefusal, VehicleState};
+use records::record::Record;
 
-// Kind 40: a new split; a refused one leaves the one kept.
-fn new_split<W: Write>(stdout: &mut W, b: &[u8; 80], before: ForwardThrust) -> ForwardThrust {
-    let made = ForwardThrust::new(settings::split(b));
-    match made {
-        NewForwardThrust::Forward(split) => {
-            show::flag(stdout, split.enabled(), END);
-            split
-        }
-        NewForwardThrust::Refused(why) => {
-            show::refused(stdout, why);
-            before
-        }
-    }
+#[derive(Clone, Copy, Debug, PartialEq, Eq)]
+pub(crate) enum Forward {
+    NewSplit,
+    Split,
+    Limit,
+    Pitch,
+    NewHold,
+    Hold,
 }
 
-// Kind 41: a pitch split.
-fn split<W: Write>(stdout: &mut W, b: &[u8; 80], kept: ForwardThrust) {
-    let answer = kept.split(number(b, 1), number(b, 2));
-    match answer {
-        SplitAnswer::Split(parts) => {
-            show::number(stdout, parts.pitch_rad, SPACE);
-            show::number(stdout, parts.thrust, END);
-        }
-        SplitAnswer::Refused(why) => show::refused(stdout, why),
-    }
-}
+impl TryFrom<u8> for Forward {
+    type Error = NoAnswer;
 
-// Kind 42: the pitch limit.
-fn limit<W: Write>(stdout: &mut W, b: &[u8; 80]) {
-    let rest = record::still();
-    let state = VehicleState {
-        velocity_mps: record::horizontal(b, 3, 4),
-        ..rest
-    };
-    show::number(
-        stdout,
-        forward_pitch_limit_rad(number(b, 1), number(b, 2), state),
-        END,
-    );
+    fn try_from(kind: u8) -> Result<Forward, NoAnswer> {
+        match kind {
+            40 => Ok(Forward::NewSplit),
+            41 => Ok(Forward::Split),
+            42 => Ok(Forward::Limit),
+            43 => Ok(Forward::Pitch),
+            44 => Ok(Forward::NewHold),
+            45 => Ok(Forward::Hold),
+            _ => Err(NoAnswer::Unknown),
+        }
+    }
 }
 
 // The attitude of numbers 2 to 5.
-fn attitude(b: &[u8; 80]) -> AttitudeSetpoint {
+fn attitude(record: &Record) -> AttitudeSetpoint {
+    let [roll_rad, pitch_rad, heading_rad, thrust] = numbers::<4>(record, 2);
     AttitudeSetpoint {
-        roll_rad: number(b, 2),
-        pitch_rad: number(b, 3),
-        heading_rad: number(b, 4),
-        thrust: number(b, 5),
+        roll_rad,
+        pitch_rad,
+        heading_rad,
+        thrust,
         transition: false,
         idle: false,
     }
 }
 
 // The rates of numbers 2 to 5.
-fn rate(b: &[u8; 80]) -> RateSetpoint {
+fn rate(record: &Record) -> RateSetpoint {
+    let [roll_rate, pitch_rate, yaw_rate, thrust] = numbers::<4>(record, 2);
     RateSetpoint {
-        roll_rate: number(b, 2),
-        pitch_rate: number(b, 3),
-        yaw_rate: number(b, 4),
-        thrust: number(b, 5),
+        roll_rate,
+        pitch_rate,
+        yaw_rate,
+        thrust,
         idle: false,
     }
 }
 
 // The body rates of numbers 2 to 5.
-fn body_rate(b: &[u8; 80]) -> BodyRateSetpoint {
+fn body_rate(record: &Record) -> BodyRateSetpoint {
+    let [roll_radps, pitch_radps, yaw_radps, thrust] = numbers::<4>(record, 2);
     BodyRateSetpoint {
-        roll_radps: number(b, 2),
-        pitch_radps: number(b, 3),
-        yaw_radps: number(b, 4),
-        thrust: number(b, 5),
+        roll_radps,
+        pitch_radps,
+        yaw_radps,
+        thrust,
         idle: false,
     }
 }
 
-// The plane setpoint of three numbers.
-fn plane(b: &[u8; 80], roll: usize, pitch: usize, thrust: usize) -> PlaneSetpoint
-    requires { (roll < 20) × (pitch < 20) × (thrust < 20) }
+// The plane setpoint of three numbers, from number i on.
+fn plane(record: &Record, i: usize) -> PlaneSetpoint
+    requires { i < 18 }
 {
+    let [roll_rad, pitch_rad, thrust] = numbers::<3>(record, i);
     PlaneSetpoint {
-        roll_rad: number(b, roll),
-        pitch_rad: number(b, pitch),
-        thrust: number(b, thrust),
+        roll_rad,
+        pitch_rad,
+        thrust,
         transition: false,
     }
 }
 
 // The blend of numbers 2 to 9.
-fn blend(b: &[u8; 80]) -> BlendSetpoint {
+fn blend(record: &Record) -> BlendSetpoint {
     BlendSetpoint {
-        hover: attitude(b),
-        plane: plane(b, 6, 7, 8),
-        lift_share: number(b, 9),
+        hover: attitude(record),
+        plane: plane(record, 6),
+        lift_share: record.number(9),
     }
 }
 
-// The setpoint of kind 43, option 0 to 5.
-fn setpoint(b: &[u8; 80]) -> Setpoint {
-    let option = record::option(b);
-    match option {
-        0 => Setpoint::Attitude(attitude(b)),
-        1 => Setpoint::Rate(rate(b)),
-        2 => Setpoint::BodyRate(body_rate(b)),
-        3 => Setpoint::Plane(plane(b, 2, 3, 4)),
-        4 => Setpoint::PlaneRate(body_rate(b)),
-        _ => Setpoint::Blend(blend(b)),
+// The setpoint of an option, 0 to 5.
+fn setpoint(record: &Record) -> Setpoint {
+    match record.option() {
+        0 => Setpoint::Attitude(attitude(record)),
+        1 => Setpoint::Rate(rate(record)),
+        2 => Setpoint::BodyRate(body_rate(record)),
+        3 => Setpoint::Plane(plane(record, 2)),
+        4 => Setpoint::PlaneRate(body_rate(record)),
+        _ => Setpoint::Blend(blend(record)),
     }
 }
 
-// Kinds 40 and 41.
-fn thrust<W: Write>(stdout: &mut W, b: &[u8; 80], before: ForwardThrust) -> ForwardThrust {
-    let kind = record::kind(b);
-    match kind {
-        40 => new_split(stdout, b, before),
-        _ => {
-            split(stdout, b, before);
-            before
-        }
-    }
+// The pitch limit, of a vehicle that moves.
+fn limit_rad(record: &Record) -> f32 {
+    let state = VehicleState {
+        velocity_mps: horizontal(record, 3),
+        ..still()
+    };
+    forward_pitch_limit_rad(record.number(1), record.number(2), state)
 }
 
-// Kinds 40 to 45.
-pub(crate) fn call<W: Write>(stdout: &mut W, b: &[u8; 80], k: Kept) -> Kept {
-    let kind = record::kind(b);
-    match kind {
-        40..=41 => {
-            let before = k.split;
-            Kept {
-                split: thrust(stdout, b, before),
-                ..k
+impl Forward {
+    pub(crate) fn line(self, record: &Record, kept: &mut Kept) -> Result<Line, InputRefusal> {
+        Ok(match self {
+            Forward::NewSplit => {
+                kept.split = ForwardThrust::new(settings::split(record))?;
+                Line::Flag(kept.split.enabled())
             }
-        }
-        42 => {
-            limit(stdout, b);
-            k
-        }
-        43 => {
-            show::number(stdout, forward_pitch_rad(setpoint(b), number(b, 1)), END);
-            k
-        }
-        44..=45 => {
-            let before = k.hold;
-            Kept {
-                hold: hold::call(stdout, b, before),
-                ..k
+            Forward::Split => { Line::Split(kept.split.split(record.number(1), record.number(2))?) }
+            Forward::Limit => Line::Number(limit_rad(record)),
+            Forward::Pitch => Line::Number(forward_pitch_rad(setpoint(record), record.number(1))),
+            Forward::NewHold => {
+                kept.hold = FallbackHold::new();
+                Line::Maybe(None)
             }
-        }
-        _ => {
-            show::unknown(stdout);
-            k
-        }
+            Forward::Hold => {
+                let update = hold::held(kept.hold, record);
+                kept.hold = update.hold;
+                Line::Input(update.input)
+            }
+        })
     }
 }

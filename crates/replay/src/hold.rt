@@ -1,212 +1,147 @@
-// Kinds 44 and 45: the hold after a fallback.
-use crate::record::number;
-use crate::show::{END, SPACE};
-use crate::{record, show};
+// The hold after a fallback: what the option of kind 45 says, and the line of the input to fly.
+use crate::line::Numbers;
+use crate::values::numbers;
 use machines::control::{
     AbsoluteAttitudeCommand, AbsoluteRateCommand, AttitudeCommand, ControlInput, LandCommand,
-    MaybeHeading, MaybeVelocity, RateCommand, WaypointCommand,
+    RateCommand, WaypointCommand,
 };
-use machines::hold::FallbackHold;
-use numbers::logic::{both, either};
-use std::io::Write;
+use machines::hold::{FallbackHold, HoldUpdate};
+use records::record::Record;
+use records::words::{Bits, Dash};
+use std::fmt;
+use std::fmt::Display;
+
+// The flags of an option.
+const FALLEN_BACK: u8 = 8;
+
+const VELOCITY: u8 = 16;
+
+const HEADING: u8 = 32;
 
 // The options of kind 45: an input 0 to 5, and 8 if fallen back; a waypoint's may have 16 and 32 too.
 pub(crate) fn has_option(option: u8) -> bool {
-    let is_plain = both(option < 16, option % 8 <= 5);
-    let is_waypoint = both(option < 64, option % 8 == 2);
-    either(is_plain, is_waypoint)
+    let is_plain = option < 16 && option % 8 <= 5;
+    let is_waypoint = option < 64 && option % 8 == 2;
+    is_plain || is_waypoint
 }
 
-// Whether the option has one of its flags, 8, 16 or 32.
-fn has_flag(b: &[u8; 80], flag: u8) -> bool {
-    record::option(b) & flag != 0
-}
-
-// The velocity of a waypoint, numbers 6 and 7.
-fn velocity(b: &[u8; 80]) -> MaybeVelocity {
-    if has_flag(b, 16) {
-        MaybeVelocity::Some(record::vec2(b, 6, 7))
-    } else {
-        MaybeVelocity::None
-    }
-}
-
-// The heading of a waypoint, number 10.
-fn heading(b: &[u8; 80]) -> MaybeHeading {
-    if has_flag(b, 32) {
-        MaybeHeading::Some(number(b, 10))
-    } else {
-        MaybeHeading::None
-    }
+// Whether the option has one of its flags.
+fn has_flag(record: &Record, flag: u8) -> bool {
+    record.option() & flag != 0
 }
 
 // The attitude of numbers 4 to 7.
-fn attitude(b: &[u8; 80]) -> AttitudeCommand {
+fn attitude(record: &Record) -> AttitudeCommand {
+    let [throttle, roll, pitch, yaw] = numbers::<4>(record, 4);
     AttitudeCommand {
-        throttle: number(b, 4),
-        roll: number(b, 5),
-        pitch: number(b, 6),
-        yaw: number(b, 7),
+        throttle,
+        roll,
+        pitch,
+        yaw,
     }
 }
 
 // The rates of numbers 4 to 7.
-fn rate(b: &[u8; 80]) -> RateCommand {
+fn rate(record: &Record) -> RateCommand {
+    let [throttle, roll_rate, pitch_rate, yaw_rate] = numbers::<4>(record, 4);
     RateCommand {
-        throttle: number(b, 4),
-        roll_rate: number(b, 5),
-        pitch_rate: number(b, 6),
-        yaw_rate: number(b, 7),
+        throttle,
+        roll_rate,
+        pitch_rate,
+        yaw_rate,
     }
 }
 
 // The waypoint of numbers 4 to 10.
-fn waypoint(b: &[u8; 80]) -> WaypointCommand {
+fn waypoint(record: &Record) -> WaypointCommand {
     WaypointCommand {
-        position_m: record::vec2(b, 4, 5),
-        velocity_mps: velocity(b),
-        altitude_m: number(b, 8),
-        cruise_speed_mps: number(b, 9),
-        heading_rad: heading(b),
+        position_m: record.vec2(4),
+        velocity_mps: has_flag(record, VELOCITY).then_some(record.vec2(6)),
+        altitude_m: record.number(8),
+        cruise_speed_mps: record.number(9),
+        heading_rad: has_flag(record, HEADING).then_some(record.number(10)),
     }
 }
 
 // The absolute attitude of numbers 4 to 7.
-fn absolute_attitude(b: &[u8; 80]) -> AbsoluteAttitudeCommand {
+fn absolute_attitude(record: &Record) -> AbsoluteAttitudeCommand {
+    let [roll_rad, pitch_rad, heading_rad, thrust] = numbers::<4>(record, 4);
     AbsoluteAttitudeCommand {
-        roll_rad: number(b, 4),
-        pitch_rad: number(b, 5),
-        heading_rad: number(b, 6),
-        thrust: number(b, 7),
+        roll_rad,
+        pitch_rad,
+        heading_rad,
+        thrust,
     }
 }
 
 // The absolute rates of numbers 4 to 7.
-fn absolute_rate(b: &[u8; 80]) -> AbsoluteRateCommand {
+fn absolute_rate(record: &Record) -> AbsoluteRateCommand {
+    let [roll_radps, pitch_radps, yaw_radps, thrust] = numbers::<4>(record, 4);
     AbsoluteRateCommand {
-        roll_radps: number(b, 4),
-        pitch_radps: number(b, 5),
-        yaw_radps: number(b, 6),
-        thrust: number(b, 7),
+        roll_radps,
+        pitch_radps,
+        yaw_radps,
+        thrust,
     }
 }
 
 // The input of an option, 0 to 5 without its flags.
-fn input(b: &[u8; 80]) -> ControlInput {
-    let form = record::option(b) % 8;
-    match form {
-        0 => ControlInput::Attitude(attitude(b)),
-        1 => ControlInput::Rate(rate(b)),
-        2 => ControlInput::Waypoint(waypoint(b)),
-        3 => ControlInput::AbsoluteAttitude(absolute_attitude(b)),
+fn input(record: &Record) -> ControlInput {
+    match record.option() % 8 {
+        0 => ControlInput::Attitude(attitude(record)),
+        1 => ControlInput::Rate(rate(record)),
+        2 => ControlInput::Waypoint(waypoint(record)),
+        3 => ControlInput::AbsoluteAttitude(absolute_attitude(record)),
         4 => ControlInput::Land(LandCommand {
-            position_m: record::vec2(b, 4, 5),
+            position_m: record.vec2(4),
         }),
-        _ => ControlInput::AbsoluteRate(absolute_rate(b)),
+        _ => ControlInput::AbsoluteRate(absolute_rate(record)),
     }
 }
 
-// An input of four numbers, after its option.
-fn show_four<W: Write>(
-    stdout: &mut W,
-    option: u8,
-    first: f32,
-    second: f32,
-    third: f32,
-    fourth: f32,
-) {
-    show::count(stdout, option, SPACE);
-    show::number(stdout, first, SPACE);
-    show::number(stdout, second, SPACE);
-    show::number(stdout, third, SPACE);
-    show::number(stdout, fourth, END);
+// The hold after kind 45, with the input to fly.
+pub(crate) fn held(before: FallbackHold, record: &Record) -> HoldUpdate {
+    before.input(has_flag(record, FALLEN_BACK), input(record), record.vec3(1))
 }
 
-// A waypoint's velocity, if there is one.
-fn show_velocity<W: Write>(stdout: &mut W, velocity: MaybeVelocity) {
-    match velocity {
-        MaybeVelocity::None => show::none(stdout, SPACE),
-        MaybeVelocity::Some(v) => show::vec2(stdout, v, SPACE),
-    }
-}
+// The input to fly: its option, then its numbers.
+#[derive(Clone, Copy)]
+pub(crate) struct Flown(pub(crate) ControlInput);
 
-// A waypoint's heading, if there is one.
-fn show_heading<W: Write>(stdout: &mut W, heading: MaybeHeading) {
-    match heading {
-        MaybeHeading::None => show::none(stdout, END),
-        MaybeHeading::Some(x) => show::number(stdout, x, END),
-    }
-}
-
-// A waypoint, after its option.
-fn show_waypoint<W: Write>(stdout: &mut W, w: WaypointCommand) {
-    let position = w.position_m;
-    let velocity = w.velocity_mps;
-    let heading = w.heading_rad;
-    show::count(stdout, 2, SPACE);
-    show::vec2(stdout, position, SPACE);
-    show_velocity(stdout, velocity);
-    show::number(stdout, w.altitude_m, SPACE);
-    show::number(stdout, w.cruise_speed_mps, SPACE);
-    show_heading(stdout, heading);
-}
-
-// A landing, after its option.
-fn show_land<W: Write>(stdout: &mut W, l: LandCommand) {
-    let position = l.position_m;
-    show::count(stdout, 4, SPACE);
-    show::vec2(stdout, position, END);
-}
-
-// The input's option, then its numbers.
-fn show_input<W: Write>(stdout: &mut W, i: ControlInput) {
-    match i {
-        ControlInput::Attitude(a) => show_four(stdout, 0, a.throttle, a.roll, a.pitch, a.yaw),
-        ControlInput::Rate(r) => show_four(
-            stdout,
-            1,
-            r.throttle,
-            r.roll_rate,
-            r.pitch_rate,
-            r.yaw_rate,
-        ),
-        ControlInput::Waypoint(w) => show_waypoint(stdout, w),
-        ControlInput::AbsoluteAttitude(a) => {
-            show_four(stdout, 3, a.roll_rad, a.pitch_rad, a.heading_rad, a.thrust)
-        }
-        ControlInput::Land(l) => show_land(stdout, l),
-        ControlInput::AbsoluteRate(r) => {
-            show_four(
-                stdout,
-                5,
-                r.roll_radps,
-                r.pitch_radps,
-                r.yaw_radps,
-                r.thrust,
-            )
+impl Display for Flown {
+    fn fmt<W: fmt::Write>(&self, f: &mut fmt::Formatter<W>) -> fmt::Result {
+        match self.0 {
+            ControlInput::Attitude(a) => {
+                write!(f, "0 {}", Numbers([a.throttle, a.roll, a.pitch, a.yaw]))
+            }
+            ControlInput::Rate(r) => {
+                let numbers = Numbers([r.throttle, r.roll_rate, r.pitch_rate, r.yaw_rate]);
+                write!(f, "1 {numbers}")
+            }
+            ControlInput::Waypoint(w) => show_waypoint(f, w),
+            ControlInput::AbsoluteAttitude(a) => {
+                let numbers = Numbers([a.roll_rad, a.pitch_rad, a.heading_rad, a.thrust]);
+                write!(f, "3 {numbers}")
+            }
+            ControlInput::Land(l) => {
+                write!(f, "4 {}", Numbers([l.position_m.x, l.position_m.y]))
+            }
+            ControlInput::AbsoluteRate(r) => {
+                let numbers = Numbers([r.roll_radps, r.pitch_radps, r.yaw_radps, r.thrust]);
+                write!(f, "5 {numbers}")
+            }
         }
     }
 }
 
-// Kind 44: a new hold.
-fn new_hold<W: Write>(stdout: &mut W) -> FallbackHold {
-    show::none(stdout, END);
-    FallbackHold::new()
-}
-
-// Kind 45: the input to fly.
-fn flown<W: Write>(stdout: &mut W, b: &[u8; 80], before: FallbackHold) -> FallbackHold {
-    let after = before.input(has_flag(b, 8), input(b), record::vec3(b, 1, 2, 3));
-    let flown = after.input;
-    show_input(stdout, flown);
-    after.hold
-}
-
-// Kinds 44 and 45.
-pub(crate) fn call<W: Write>(stdout: &mut W, b: &[u8; 80], before: FallbackHold) -> FallbackHold {
-    let kind = record::kind(b);
-    match kind {
-        44 => new_hold(stdout),
-        _ => flown(stdout, b, before),
-    }
+// A waypoint, after its option: position, velocity if any, altitude, speed, and heading if any.
+fn show_waypoint<W: fmt::Write>(f: &mut fmt::Formatter<W>, w: WaypointCommand) -> fmt::Result {
+    write!(
+        f,
+        "2 {} {} {} {}",
+        Numbers([w.position_m.x, w.position_m.y]),
+        Dash(w.velocity_mps.map(|v| Numbers([v.x, v.y]))),
+        Numbers([w.altitude_m, w.cruise_speed_mps]),
+        Dash(w.heading_rad.map(Bits)),
+    )
 }

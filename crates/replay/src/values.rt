@@ -1,74 +1,124 @@
 // Kinds 1 to 13: numbers, vectors and the airspeed.
-use crate::record::number;
-use crate::show::{END, SPACE};
-use crate::{record, show};
-use machines::{AirspeedReading, VehicleState};
+ghost use Rattle.std.specs.Prelude.{◌+◌, ◌<◌, ◌≤◌};
+
+use crate::kind::NoAnswer;
+use crate::line::Line;
+use machines::VehicleState;
 use numbers::math;
 use numbers::root::root;
-use std::io::Write;
+use numbers::vector::{Quaternion, Vec2, Vec3};
+use records::record::Record;
+use std::array;
 
-// Kinds 1 to 3: the root, the norm and the dot product.
-fn root_or_product(b: &[u8; 80], kind: u8) -> f32 {
-    match kind {
-        1 => root(number(b, 1)),
-        2 => record::vec2(b, 1, 2).norm(),
-        _ => record::vec2(b, 1, 2).dot(record::vec2(b, 3, 4)),
+#[derive(Clone, Copy, Debug, PartialEq, Eq)]
+pub(crate) enum Value {
+    Root,
+    Norm,
+    Dot,
+    Rotation,
+    NoseUp,
+    ForwardSpeed,
+    Clamp,
+    Min,
+    Max,
+    Throttle,
+    LimitOrZero,
+    Symmetric,
+    Airspeed,
+}
+
+impl TryFrom<u8> for Value {
+    type Error = NoAnswer;
+
+    fn try_from(kind: u8) -> Result<Value, NoAnswer> {
+        match kind {
+            1 => Ok(Value::Root),
+            2 => Ok(Value::Norm),
+            3 => Ok(Value::Dot),
+            4 => Ok(Value::Rotation),
+            5 => Ok(Value::NoseUp),
+            6 => Ok(Value::ForwardSpeed),
+            7 => Ok(Value::Clamp),
+            8 => Ok(Value::Min),
+            9 => Ok(Value::Max),
+            10 => Ok(Value::Throttle),
+            11 => Ok(Value::LimitOrZero),
+            12 => Ok(Value::Symmetric),
+            13 => Ok(Value::Airspeed),
+            _ => Err(NoAnswer::Unknown),
+        }
     }
 }
 
-// Kind 4: the rotated vector.
-fn rotation<W: Write>(stdout: &mut W, b: &[u8; 80]) {
-    let attitude = record::quaternion(b, 1, 2, 3, 4);
-    let v = attitude.rotate(record::vec3(b, 5, 6, 7));
-    show::number(stdout, v.x, SPACE);
-    show::number(stdout, v.y, SPACE);
-    show::number(stdout, v.z, END);
+// N numbers in a row, from number i on.
+pub(crate) fn numbers<const N: usize>(record: &Record, i: usize) -> [f32; N]
+    requires { i + N ≤ 20 }
+{
+    array::from_fn(|k| record.number(i + k))
 }
 
-// Kinds 5 and 6: what the attitude says of the nose.
-fn nose_of(b: &[u8; 80], kind: u8) -> f32 {
-    let attitude = record::quaternion(b, 1, 2, 3, 4);
-    match kind {
-        5 => attitude.nose_up_cosine(),
-        _ => attitude.forward_speed_mps(record::vec3(b, 5, 6, 7)),
+// A vehicle that stands still, level, with no airspeed: what a call of fewer numbers fills in.
+pub(crate) fn still() -> VehicleState {
+    VehicleState {
+        z_m: 0.0,
+        velocity_mps: Vec3 {
+            x: 0.0,
+            y: 0.0,
+            z: 0.0,
+        },
+        acceleration_mps2: Vec2 { x: 0.0, y: 0.0 },
+        attitude: Quaternion {
+            w: 1.0,
+            x: 0.0,
+            y: 0.0,
+            z: 0.0,
+        },
+        airspeed: None,
     }
 }
 
-// Kinds 7 to 12: clamp, min, max and the saturations.
-fn clamped(b: &[u8; 80], kind: u8) -> f32 {
-    match kind {
-        7 => math::clamp(number(b, 1), number(b, 2), number(b, 3)),
-        8 => math::min(number(b, 1), number(b, 2)),
-        9 => math::max(number(b, 1), number(b, 2)),
-        10 => math::saturate_throttle(number(b, 1)),
-        11 => math::limit_or_zero(number(b, 1)),
-        _ => math::saturate_symmetric(number(b, 1), number(b, 2)),
-    }
+// The horizontal velocity of two numbers, from number i on.
+pub(crate) fn horizontal(record: &Record, i: usize) -> Vec3
+    requires { i < 19 }
+{
+    let Vec2 { x, y } = record.vec2(i);
+    Vec3 { x, y, z: 0.0 }
 }
 
-// Kind 13: the valid airspeed, if there is one.
-fn airspeed<W: Write>(stdout: &mut W, b: &[u8; 80]) {
-    let rest = record::still();
-    let state = VehicleState {
-        airspeed: record::airspeed(b, 1, record::option(b) == 1),
-        ..rest
+// The valid airspeed, if there is one. Option 1 has an airspeed present.
+fn airspeed(record: &Record) -> Option<f32> {
+    let airspeed = if record.option() == 1 {
+        Some(record.number(1))
+    } else {
+        None
     };
-    let reading = state.valid_airspeed_mps();
-    match reading {
-        AirspeedReading::None => show::none(stdout, END),
-        AirspeedReading::Valid(airspeed_mps) => show::number(stdout, airspeed_mps, END),
+    VehicleState {
+        airspeed,
+        ..still()
     }
+    .valid_airspeed_mps()
 }
 
-// Kinds 1 to 13.
-pub(crate) fn call<W: Write>(stdout: &mut W, b: &[u8; 80]) {
-    let kind = record::kind(b);
-    match kind {
-        1..=3 => show::number(stdout, root_or_product(b, kind), END),
-        4 => rotation(stdout, b),
-        5..=6 => show::number(stdout, nose_of(b, kind), END),
-        7..=12 => show::number(stdout, clamped(b, kind), END),
-        13 => airspeed(stdout, b),
-        _ => show::unknown(stdout),
+impl Value {
+    pub(crate) fn line(self, record: &Record) -> Line {
+        let first = record.number(1);
+        let second = record.number(2);
+        match self {
+            Value::Root => Line::Number(root(first)),
+            Value::Norm => Line::Number(record.vec2(1).norm()),
+            Value::Dot => Line::Number(record.vec2(1).dot(record.vec2(3))),
+            Value::Rotation => Line::Vector(record.quaternion(1).rotate(record.vec3(5))),
+            Value::NoseUp => Line::Number(record.quaternion(1).nose_up_cosine()),
+            Value::ForwardSpeed => {
+                Line::Number(record.quaternion(1).forward_speed_mps(record.vec3(5)))
+            }
+            Value::Clamp => Line::Number(math::clamp(first, second, record.number(3))),
+            Value::Min => Line::Number(math::min(first, second)),
+            Value::Max => Line::Number(math::max(first, second)),
+            Value::Throttle => Line::Number(math::saturate_throttle(first)),
+            Value::LimitOrZero => Line::Number(math::limit_or_zero(first)),
+            Value::Symmetric => Line::Number(math::saturate_symmetric(first, second)),
+            Value::Airspeed => Line::Maybe(airspeed(record)),
+        }
     }
 }

@@ -3,17 +3,7 @@
 #![tactic(auto)]
 
 use card::run::run;
-use numbers::bits::from_le_bytes;
 use std::io::{Read, Write};
-
-// The length of the next card; -1 at the end of the list.
-fn next_length<R: Read>(stdin: &mut R) -> isize {
-    let mut b = [0u8; 4];
-    if streams::read_full(stdin, &mut b) < 4 {
-        return -1;
-    }
-    from_le_bytes(b[0], b[1], b[2], b[3]) as isize
-}
 
 // Runs a card and writes its transcript.
 fn run_card<W: Write>(stdout: &mut W, card: &[u8]) {
@@ -23,33 +13,21 @@ fn run_card<W: Write>(stdout: &mut W, card: &[u8]) {
     streams::write_all(stdout, &out[..n]);
 }
 
-// Reads a card of that length, and answers whether all of it came.
-fn read_card<R: Read>(stdin: &mut R, card: &mut [u8], length: isize) -> bool {
-    let n = streams::count(length, card);
-    streams::read_full(stdin, &mut card[..n]) == n
-}
-
-// Takes the next card, and answers whether there was one.
-fn take_card<R: Read, W: Write>(stdin: &mut R, stdout: &mut W) -> bool {
-    let length = next_length(stdin);
-    if length < 0 {
-        return false;
-    }
+// Takes the next card, if there is one.
+fn take_card<R: Read, W: Write>(stdin: &mut R, stdout: &mut W) -> Option<()> {
+    let length = streams::read_u32(stdin)?;
     let mut card = streams::large_buffer();
-    if !read_card(stdin, &mut card, length) {
-        return false;
-    }
-    let n = streams::count(length, &card);
+    let n = streams::read_start(stdin, &mut card, length)?;
     run_card(stdout, &card[..n]);
-    true
+    Some(())
 }
 
-// A proved loop has to end, and nothing says that the input does, so it counts its turns up to a number that no run reaches.
+// A proved loop has to end, and nothing says that the input does (a `while let` has no measure), so it counts its turns up to a number that no run reaches.
 fn main(rt: HostRuntime) {
     let mut stdin = rt.stdin();
     let mut stdout = rt.stdout();
     for _ in 0..u64::MAX {
-        if !take_card(&mut stdin, &mut stdout) {
+        if take_card(&mut stdin, &mut stdout).is_none() {
             return;
         }
     }

@@ -3,124 +3,104 @@
 // Bytes after the last whole record are ignored.
 #![tactic(auto)]
 
-mod record;
 mod show;
 
 ghost use Rattle.std.specs.Prelude.{◌≡◌};
 ghost use Rattle.joined.specs.Joined.{step_of};
 
+use joined::answer::Line;
 use joined::call::StepInput;
-use joined::joined::{Joined, JoinedUpdate, NewJoined};
+use joined::joined::Joined;
 use joined::machine::Airframe;
-use record::number;
-use std::io::{Read, Write};
+use machines::InputRefusal;
+use machines::answer::Update;
+use records::record::Record;
+use records::words::Refused;
+use show::Shown;
+use std::io::Write;
 
-// The machine after a record, and whether there was a whole one.
-#[derive(Clone, Copy)]
-struct Turn {
-    joined: Joined,
-    more: bool,
+// What a record after the first calls.
+#[derive(Clone, Copy, Debug, PartialEq, Eq)]
+enum Kind {
+    Prime,
+    Step,
+    Cut,
+    Settings,
+    Header,
+}
+
+// The list is not checked as a card is, so a kind that no card has counts as one that it has.
+impl From<u8> for Kind {
+    fn from(kind: u8) -> Kind {
+        match kind {
+            1 => Kind::Prime,
+            2 => Kind::Step,
+            3 => Kind::Cut,
+            0 | 4 => Kind::Settings,
+            5.. => Kind::Header,
+        }
+    }
 }
 
 // A step through the thin entry, of a state in a local.
-fn entered(start: Joined, input: StepInput) -> JoinedUpdate
+fn entered(start: Joined, input: StepInput) -> Update<Joined, Line>
     ensures { result ≡ step_of start input }
 {
-    let mut joined = start;
-    let answer = joined.enter(input);
-    JoinedUpdate { joined, answer }
+    let mut state = start;
+    let answer = state.enter(input);
+    Update { state, answer }
 }
 
-// The call of a record that is no header.
-fn called(b: &[u8; 80], before: Joined) -> JoinedUpdate {
-    let kind = record::kind(b);
-    match kind {
-        1 => before.prime(number(b, 2)),
-        2 => entered(before, record::step_input(b)),
-        3 => before.cut(record::reason(b)),
-        _ => before.set(record::settings(b)),
-    }
-}
-
-// Makes the call of a record and writes its line.
-fn call<W: Write>(stdout: &mut W, b: &[u8; 80], before: Joined) -> Joined {
-    let update = called(b, before);
-    let answer = update.answer;
-    show::answer(stdout, answer);
-    update.joined
-}
-
-// The machine of a header.
-fn made(b: &[u8; 80]) -> NewJoined {
-    let kind = record::kind(b);
-    match kind {
-        5 => Joined::new(Airframe::Tailsitter, record::settings(b)),
-        _ => Joined::new(Airframe::Quadplane, record::settings(b)),
-    }
-}
-
-// Makes the machine of a header and writes its line.
-fn new<W: Write>(stdout: &mut W, b: &[u8; 80], before: Joined) -> Joined {
-    let new = made(b);
-    match new {
-        NewJoined::Joined(joined) => {
-            show::new(stdout);
-            joined
-        }
-        NewJoined::Refused(why) => {
-            show::refused(stdout, why);
-            before
-        }
-    }
-}
-
-// Reads a record and makes its call.
-fn take_record<R: Read, W: Write>(stdin: &mut R, stdout: &mut W, before: Joined) -> Turn {
-    let mut b = [0u8; 80];
-    if streams::read_full(stdin, &mut b) < 80 {
-        return Turn {
-            joined: before,
-            more: false,
-        };
-    }
-    let joined = if record::kind(&b) >= 5 {
-        new(stdout, &b, before)
-    } else {
-        call(stdout, &b, before)
+// The machine of a header: kind 5 a tailsitter's, any other a quadplane's.
+fn made(record: &Record) -> Result<Joined, InputRefusal> {
+    let airframe = match record.kind() {
+        5 => Airframe::Tailsitter,
+        _ => Airframe::Quadplane,
     };
-    Turn { joined, more: true }
+    Joined::new(airframe, record.settings())
+}
+
+// Makes the call of a record. A header that is refused leaves the machine before.
+fn call(joined: &mut Joined, record: &Record) -> Result<Shown, InputRefusal> {
+    let update = match Kind::from(record.kind()) {
+        Kind::Header => {
+            *joined = made(record)?;
+            return Ok(Shown::New);
+        }
+        Kind::Prime => joined.prime(record.number(2)),
+        Kind::Step => entered(*joined, record.step_input()),
+        Kind::Cut => joined.cut(record.reason()),
+        Kind::Settings => joined.set(record.settings()),
+    };
+    *joined = update.state;
+    Ok(Shown::Line(update.answer?))
+}
+
+// Writes a line. One that cannot be written is left out.
+fn write_line<W: Write>(stdout: &mut W, shown: Result<Shown, InputRefusal>) {
+    let _ = match shown {
+        Ok(shown) => writeln!(stdout, "{shown}"),
+        Err(why) => writeln!(stdout, "{}", Refused(why)),
+    };
 }
 
 // Takes the records one after the other. A proved loop has to end, and nothing says that the input does,
 // so it counts its turns up to a number that no run reaches.
-fn take_records<R: Read, W: Write>(stdin: &mut R, stdout: &mut W, first: Joined) {
-    let mut joined = first;
-    for _ in 0..u64::MAX {
-        let turn = take_record(stdin, stdout, joined);
-        if !turn.more {
-            return;
-        }
-        joined = turn.joined;
-    }
-}
-
-// Begins with the machine of the first header.
-fn begin<R: Read, W: Write>(stdin: &mut R, stdout: &mut W, b: &[u8; 80]) {
-    let first = made(b);
-    match first {
-        NewJoined::Joined(joined) => {
-            show::new(stdout);
-            take_records(stdin, stdout, joined);
-        }
-        NewJoined::Refused(why) => show::refused(stdout, why),
-    }
-}
-
 fn main(rt: HostRuntime) {
     let mut stdin = rt.stdin();
     let mut stdout = rt.stdout();
-    let mut b = [0u8; 80];
-    if streams::read_full(&mut stdin, &mut b) == 80 {
-        begin(&mut stdin, &mut stdout, &b);
+    let Some(header) = Record::read(&mut stdin) else {
+        return;
+    };
+    let first = made(&header);
+    write_line(&mut stdout, first.map(|_| Shown::New));
+    let Ok(mut joined) = first else {
+        return;
+    };
+    for _ in 0..u64::MAX {
+        let Some(record) = Record::read(&mut stdin) else {
+            return;
+        };
+        write_line(&mut stdout, call(&mut joined, &record));
     }
 }

@@ -6,19 +6,22 @@
 
 ghost use Rattle.std.specs.Prelude.{◌≡◌, length};
 
-use card::record::{Record, read_record};
-use card::write::{Wrote, write};
+use card::record::read_record;
+use card::write::{WriteRefusal, write};
 use joined::call::Call;
 use joined::machine::Airframe;
 use joined::settings::Settings;
-use numbers::bits::from_le_bytes;
-use std::io::{Read, Write};
+use machines::InputRefusal;
+use std::io::{self, Read, Write};
 
-// The next of the numbers before a list; 0 at the end of the input.
-fn next_number<R: Read>(stdin: &mut R) -> u32 {
-    let mut b = [0u8; 4];
-    streams::read_full(stdin, &mut b);
-    from_le_bytes(b[0], b[1], b[2], b[3])
+// What stands before the calls of a list.
+#[derive(Clone, Copy)]
+struct Head {
+    count: usize,
+    room: usize,
+    given: usize,
+    airframe: Airframe,
+    settings: Settings,
 }
 
 // The bytes to lend.
@@ -28,29 +31,15 @@ fn lent_bytes() -> [u8; 65536]
     [165; 65536]
 }
 
-// Writes a refusal: its number, and the field after a 3.
-fn print_refusal<W: Write>(stdout: &mut W, number: u8, field: u8) {
-    streams::write_all(stdout, b"refused ");
-    streams::print_decimal(stdout, number as u64);
-    if number == 3 {
-        streams::write_all(stdout, b" ");
-        streams::print_decimal(stdout, field as u64);
-    }
-}
-
-// Writes how many bytes a card has.
-fn print_length<W: Write>(stdout: &mut W, length: usize) {
-    streams::write_all(stdout, b"wrote ");
-    streams::print_decimal(stdout, length as u64);
-}
-
-// Writes the line of an answer.
-fn print_wrote<W: Write>(stdout: &mut W, wrote: Wrote) {
+// Writes the line of an answer: how many bytes the card has, or the number of a refusal, and the field after a 3.
+fn print_wrote<W: Write>(stdout: &mut W, wrote: Result<usize, WriteRefusal>) -> io::Result<()> {
     match wrote {
-        Wrote::Card(length) => print_length(stdout, length),
-        Wrote::Refused(why) => print_refusal(stdout, why.number(), why.field()),
+        Ok(length) => writeln!(stdout, "wrote {length}"),
+        Err(WriteRefusal::Header(why @ InputRefusal::Setting(field))) => {
+            writeln!(stdout, "refused {} {field}", why.number())
+        }
+        Err(why) => writeln!(stdout, "refused {}", why.number()),
     }
-    streams::write_all(stdout, b"\n");
 }
 
 // The airframe of a header's kind.
@@ -61,97 +50,56 @@ fn airframe_of(kind: u8) -> Airframe {
     }
 }
 
-// The call of a record; a record that is none counts as a prime at 0.
-fn call_of(b: &[u8; 80]) -> Call {
-    let record = read_record(b, 0);
-    match record {
-        Record::Known(call) => call,
-        Record::Unknown => Call::Prime(0.0),
-    }
-}
-
-// Writes the card of a list to the lent bytes, and shows the answer and these bytes.
-fn write_card<W: Write>(
-    stdout: &mut W,
-    airframe: Airframe,
-    settings: Settings,
-    calls: [Call; 799],
-    count: usize,
-    lent: &mut [u8],
-) {
-    let wrote = write(airframe, settings, calls, count, lent);
-    print_wrote(stdout, wrote);
-    streams::write_all(stdout, lent);
-}
-
-// Lends so many bytes for a list.
-fn lend<W: Write>(
-    stdout: &mut W,
-    airframe: Airframe,
-    settings: Settings,
-    calls: [Call; 799],
-    count: usize,
-    room: isize,
-) {
-    let mut lent = lent_bytes();
-    let n = streams::count(room, &lent);
-    write_card(stdout, airframe, settings, calls, count, &mut lent[..n]);
-}
-
-// The next of the given calls.
+// The next of the given calls; a record that is none counts as a prime at 0.
 fn next_call<R: Read>(stdin: &mut R) -> Call {
     let mut b = [0u8; 80];
     streams::read_full(stdin, &mut b);
-    call_of(&b)
+    read_record(&b, 0).unwrap_or(Call::Prime(0.0))
 }
 
-// Reads the given calls and writes the list.
-fn take_calls<R: Read, W: Write>(
-    stdin: &mut R,
-    stdout: &mut W,
-    airframe: Airframe,
-    settings: Settings,
-    count: usize,
-    room: isize,
-    given: usize,
-) {
-    let mut calls = [Call::Prime(0.0); 799];
-    for i in 0..given.min(799) {
-        calls[i] = next_call(stdin);
-    }
-    lend(stdout, airframe, settings, calls, count, room);
+// Writes the card of a list to the lent bytes, and shows the answer and these bytes.
+fn write_card<W: Write>(stdout: &mut W, head: Head, calls: &[Call]) -> io::Result<()> {
+    let mut lent = lent_bytes();
+    let lent = &mut lent[..head.room.min(65_536)];
+    let wrote = write(head.airframe, head.settings, calls, lent);
+    print_wrote(stdout, wrote)?;
+    stdout.write_all(lent)
 }
 
-// Takes the next list, and answers whether there was one. A header's settings are read as those of a settings call, kind 4 with option 0.
-fn take_list<R: Read, W: Write>(stdin: &mut R, stdout: &mut W) -> bool {
-    let count = next_number(stdin);
-    let room = next_number(stdin);
-    let given = next_number(stdin);
+// What stands before the calls of the next list; None at the end of the input. A header's settings are read as those of a settings call, kind 4 with option 0.
+fn next_head<R: Read>(stdin: &mut R) -> Option<Head> {
+    let count = streams::read_u32(stdin)?;
+    let room = streams::read_u32(stdin)?;
+    let given = streams::read_u32(stdin)?;
     let mut header = [0u8; 80];
     if streams::read_full(stdin, &mut header) < 80 {
-        return false;
+        return None;
     }
     let airframe = airframe_of(header[0]);
     header[0] = 4;
     header[1] = 0;
-    let call = call_of(&header);
-    match call {
-        Call::Settings(settings) => {
-            take_calls(
-                stdin,
-                stdout,
-                airframe,
-                settings,
-                count as usize,
-                room as isize,
-                given as usize,
-            );
-            true
-        }
-        Call::Prime(_) => false,
-        Call::Step(_) => false,
-        Call::Cut(_) => false,
+    let Some(Call::Settings(settings)) = read_record(&header, 0) else {
+        return None;
+    };
+    Some(Head {
+        count: count as usize,
+        room: room as usize,
+        given: given as usize,
+        airframe,
+        settings,
+    })
+}
+
+// Takes the next list; None at the end of the input. 800 calls stand for any more than 799.
+fn take_list<R: Read, W: Write>(stdin: &mut R, stdout: &mut W) -> Option<()> {
+    let head = next_head(stdin)?;
+    let mut calls = [Call::Prime(0.0); 800];
+    for call in calls.iter_mut().take(head.given.min(799)) {
+        *call = next_call(stdin);
     }
+    // What cannot be written is left out.
+    let _ = write_card(stdout, head, &calls[..head.count.min(800)]);
+    Some(())
 }
 
 // A proved loop has to end, and nothing says that the input does, so it counts its turns up to a number that no run reaches.
@@ -159,7 +107,7 @@ fn main(rt: HostRuntime) {
     let mut stdin = rt.stdin();
     let mut stdout = rt.stdout();
     for _ in 0..u64::MAX {
-        if !take_list(&mut stdin, &mut stdout) {
+        if take_list(&mut stdin, &mut stdout).is_none() {
             return;
         }
     }

@@ -2,10 +2,11 @@
 // No function here has a `requires`. A read that a signal interrupts before it moves a byte counts as one that failed; such a write is made again.
 #![tactic(auto)]
 
-ghost use Rattle.std.specs.Prelude.{◌≡◌, ◌<◌, length, take, IsTrue, None};
+ghost use Rattle.std.specs.Prelude.{◌≡◌, ◌<◌, length, min, take, IsTrue, IfSome, IsNone, None};
+ghost use Rattle.std.specs.Int.{w32, to_le_bytes};
 ghost use Rattle.std.specs.Io.KnownBytes.{Appends, Consumes, IsAtEnd};
 ghost use Rattle.std.specs.Fmt.{decimal};
-ghost use Rattle.streams.specs.Counts.{IsPrefixLen, clamp_len};
+ghost use Rattle.streams.specs.Counts.{ConsumesFewer, IsPrefixLen, clamp_len};
 ghost use Rattle.streams.specs.Digits.{hex_text};
 
 use std::fmt::InlineText;
@@ -76,6 +77,39 @@ pub fn read_full<R: Read>(from: &mut R, buf: &mut [u8]) -> usize
     ensures bytes { Consumes (R.remaining from.old) (R.remaining from.new) (take result buf.new) }
 {
     read_input(from, buf).length
+}
+
+// The number whose bytes these are, the lowest first.
+fn number_of(bytes: [u8; 4]) -> u32
+    ensures { to_le_bytes w32 result ≡ bytes }
+{
+    u32::from_le_bytes(bytes)
+}
+
+// Reads four bytes as a little-endian number; `None` where the input ends or a read fails before the fourth.
+pub fn read_u32<R: Read>(from: &mut R) -> Option<u32>
+    ensures some { IfSome result (λ n. Consumes (R.remaining from.old) (R.remaining from.new) (to_le_bytes w32 n)) }
+    ensures none { IsNone result → ConsumesFewer (R.remaining from.old) (R.remaining from.new) 4 }
+{
+    let mut bytes = [0u8; 4];
+    if read_full(from, &mut bytes) < 4 {
+        return None;
+    }
+    Some(number_of(bytes))
+}
+
+// Reads n bytes to the start of buf, or as many as buf has room for where those are fewer, and returns how many; `None` where the input ends or a read fails before the last.
+pub fn read_start<R: Read>(from: &mut R, buf: &mut [u8], n: u32) -> Option<usize>
+    ensures in_bounds { IfSome result (λ k. IsPrefixLen k buf.new) }
+    ensures value { IfSome result (λ k. k ≡ min n (length buf.old)) }
+    ensures bytes { IfSome result (λ k. Consumes (R.remaining from.old) (R.remaining from.new) (take k buf.new)) }
+    ensures none { IsNone result → ConsumesFewer (R.remaining from.old) (R.remaining from.new) (min n (length buf.old)) }
+{
+    let most = buf.len().min(n as usize);
+    if read_full(from, &mut buf[..most]) < most {
+        return None;
+    }
+    Some(most)
 }
 
 // Writes all of buf and returns true, or returns false after a write that takes nothing or fails, when some of buf may have been written.

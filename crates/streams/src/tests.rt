@@ -59,6 +59,28 @@ fn reads_until_full_or_at_the_end(rt: HostRuntime) {
 }
 
 #[test]
+fn reads_numbers(rt: HostRuntime) {
+    let mut from: &[u8] = &[1, 2, 0, 128, 255, 255, 255];
+    assert_eq!(rt; read_u32(&mut from), Some(0x8000_0201));
+    assert_eq!(rt; read_u32(&mut from), None);
+    assert_eq!(rt; read_u32(&mut Failing { left: 3 }), None);
+    assert_eq!(rt; read_u32(&mut Failing { left: 4 }), Some(0x0707_0707));
+}
+
+#[test]
+fn reads_as_many_as_said(rt: HostRuntime) {
+    let mut from: &[u8] = b"abcdef";
+    let mut buf = [0u8; 3];
+    assert_eq!(rt; read_start(&mut from, &mut buf, 2), Some(2));
+    assert_eq!(rt; buf, *b"ab\0");
+    assert_eq!(rt; read_start(&mut from, &mut buf, u32::MAX), Some(3));
+    assert_eq!(rt; buf, *b"cde");
+    assert_eq!(rt; read_start(&mut from, &mut buf, 0), Some(0));
+    assert_eq!(rt; read_start(&mut from, &mut buf, 2), None);
+    assert_eq!(rt; read_start(&mut from, &mut buf, 0), Some(0));
+}
+
+#[test]
 fn reads_until_a_failure(rt: HostRuntime) {
     let mut from = Failing { left: 5 };
     let mut buf = [0u8; 3];

@@ -1,254 +1,137 @@
 // The numbers of a line, at the places that they have in its record.
-use crate::names::{part_of, place_of, settings_count, settings_of, values_of};
-use crate::number::{Number, read_number};
-use crate::problem::{Names, PartWhy, Problem, Verdict, Why};
-use crate::scan::{Set, count, find, next};
+use crate::names::{Names, Part};
+use crate::number::read_number;
+use crate::problem::{Problem, Word};
+use crate::scan::{is_blank, split_once};
 use joined::machine::Airframe;
 use joined::settings::Settings;
 use machines::settings::{LiftTransitionConfig, TransitionConfig};
-use numbers::logic::both;
 
-// Numbers 1 to 17 (number 0 is no number of a record), which of them the line names, and the first thing that is wrong.
-#[derive(Clone, Copy)]
-pub(crate) struct Fields {
-    pub numbers: [f32; 18],
-    pub named: [bool; 18],
-    pub verdict: Verdict,
-}
+// Numbers 1 to 17, those that the line names; number 0 is no number of a record.
+#[derive(Clone, Copy, Debug)]
+pub(crate) struct Fields([Option<f32>; 18]);
 
 impl Fields {
-    // Before any word.
-    fn new(numbers: [f32; 18]) -> Fields {
-        Fields {
-            numbers,
-            named: [false; 18],
-            verdict: Verdict::Good,
-        }
+    // The number at a place, if the line names it.
+    pub(crate) fn at(self, place: usize) -> Option<f32> {
+        self.0.get(place).copied().flatten()
     }
 
-    // With a number at its place.
-    fn with(self, place: usize, x: f32) -> Fields {
-        let mut f = self;
-        if place < 18 {
-            f.numbers[place] = x;
-            f.named[place] = true;
+    // With the numbers of a part, which stand with commas between them.
+    fn add_values<'a>(&mut self, place: usize, values: &'a [u8]) -> Result<(), Problem<'a>> {
+        let places = self.0.iter_mut().skip(place);
+        for (number, word) in places.zip(values.split(|b| *b == b',')) {
+            *number = Some(read_number(word)?);
         }
-        f
-    }
-
-    // With something wrong, if nothing was before.
-    fn bad(self, why: Why, from: usize, to: usize) -> Fields {
-        let numbers = self.numbers;
-        let named = self.named;
-        let verdict = self.verdict;
-        match verdict {
-            Verdict::Good => Fields {
-                numbers,
-                named,
-                verdict: Verdict::Bad(Problem { why, from, to }),
-            },
-            Verdict::Bad(_) => self,
-        }
-    }
-
-    // Whether a place has been named.
-    pub(crate) fn is_named(self, place: usize) -> bool {
-        if place < 18 { self.named[place] } else { false }
-    }
-
-    // Something is wrong unless the place has been named.
-    pub(crate) fn needs(self, place: usize, why: Why) -> Fields {
-        if self.is_named(place) {
-            self
-        } else {
-            self.bad(why, 0, 0)
-        }
-    }
-
-    // With a word's number at its place.
-    fn value(self, place: usize, text: &[u8], from: usize, to: usize) -> Fields {
-        let found = read_number(text, from, to);
-        match found {
-            Number::Value(x) => self.with(place, x),
-            Number::Bad(why) => self.bad(Why::Number(why), from, to),
-        }
-    }
-
-    // With so many numbers, which stand with commas between them, from a place on.
-    fn values(self, place: usize, n: usize, text: &[u8], from: usize, to: usize) -> Fields {
-        let mut f = self;
-        let mut place = place;
-        let mut at = from;
-        for _ in 0..n {
-            let end = find(text, at, to, Set::Comma, true);
-            f = f.value(place, text, at, end);
-            place = next(place);
-            at = next(end);
-        }
-        f
-    }
-
-    // With what is named by a word whose '=' is known.
-    fn part(
-        self,
-        names: Names,
-        part: usize,
-        text: &[u8],
-        from: usize,
-        equals: usize,
-        to: usize,
-    ) -> Fields {
-        let place = place_of(names, part);
-        let n = values_of(names, part);
-        if self.is_named(place) {
-            return self.bad(Why::Part(PartWhy::Twice), from, equals);
-        }
-        if next(count(text, equals, to, Set::Comma)) != n {
-            return self.bad(Why::Part(PartWhy::Values(n)), from, equals);
-        }
-        self.values(place, n, text, next(equals), to)
+        Ok(())
     }
 
     // With what is named by a word: NAME=NUMBER, or NAME=NUMBER,NUMBER and so on.
-    fn word(self, names: Names, text: &[u8], from: usize, to: usize) -> Fields {
-        let equals = find(text, from, to, Set::Equals, true);
-        if equals >= to {
-            return self.bad(Why::Part(PartWhy::NoEquals), from, to);
+    fn add<'a>(&mut self, names: Names, word: &'a [u8]) -> Result<(), Problem<'a>> {
+        let (name, values) = split_once(word, |b| *b == b'=').ok_or(Problem::NoEquals(Word(word)))?;
+        let Part(_, place, count) = names.part(name).ok_or(Problem::Unknown(names, Word(name)))?;
+        if self.at(place).is_some() {
+            return Err(Problem::Twice(Word(name)));
         }
-        let part = part_of(names, text, from, equals);
-        if part == 0 {
-            return self.bad(Why::Part(PartWhy::Unknown(names)), from, equals);
+        if values.split(|b| *b == b',').count() != count {
+            return Err(Problem::values(name, count));
         }
-        self.part(names, part, text, from, equals, to)
+        self.add_values(place, values)
     }
 
-    // With what is named by words.
-    fn words(self, names: Names, text: &[u8], from: usize, to: usize) -> Fields {
-        let mut f = self;
-        let mut at = find(text, from, to, Set::Blank, false);
-        while at < to {
-            let end = find(text, at + 1, to, Set::Blank, true);
-            f = f.word(names, text, at, end);
-            at = find(text, end, to, Set::Blank, false);
+    // The numbers that words name.
+    pub(crate) fn by_name(names: Names, words: &[u8]) -> Result<Fields, Problem<'_>> {
+        let mut fields = Fields([None; 18]);
+        for word in words.split(is_blank).filter(|word| !word.is_empty()) {
+            fields.add(names, word)?;
         }
-        f
+        Ok(fields)
     }
 
-    // The numbers as settings.
-    pub(crate) fn settings(self) -> Settings {
-        let n = self.numbers;
-        Settings {
-            n1: n[1],
-            n2: n[2],
-            n3: n[3],
-            n4: n[4],
-            n5: n[5],
-            n6: n[6],
-            n7: n[7],
-            n8: n[8],
-            n9: n[9],
-            n10: n[10],
-            n11: n[11],
-            n12: n[12],
-            n13: n[13],
-            n14: n[14],
-            n15: n[15],
-            n16: n[16],
-            n17: n[17],
+    // The settings that words are, in their order.
+    fn in_order(names: Names, words: &[u8]) -> Result<Fields, Problem<'_>> {
+        let mut fields = Fields([None; 18]);
+        let mut places = fields.0.iter_mut().skip(1);
+        for word in words.split(is_blank).filter(|word| !word.is_empty()) {
+            let x = read_number(word)?;
+            if let Some(number) = places.next() {
+                *number = Some(x);
+            }
         }
+        let count = words
+            .split(is_blank)
+            .filter(|word| !word.is_empty())
+            .count();
+        if count != names.parts().len() {
+            return Err(Problem::Count(names, count));
+        }
+        Ok(fields)
+    }
+
+    // The number at a place, or this one if the line doesn't name it.
+    pub(crate) fn or(self, place: usize, default: f32) -> f32 {
+        self.at(place).unwrap_or(default)
     }
 }
 
-// The tailsitter's default settings.
-fn tailsitter_defaults() -> [f32; 18] {
+// A tailsitter's settings: the defaults, but for those that the line names.
+fn tailsitter(fields: Fields) -> Settings {
     let d = TransitionConfig::defaults();
-    [
-        0.0,
-        d.forward_rate_radps,
-        d.forward_done_rad,
-        d.forward_max_tilt_rad,
-        d.min_airspeed_mps,
-        d.back_rate_radps,
-        d.back_done_rad,
-        d.timeout_s,
-        d.min_height_m,
-        d.plane_min_height_m,
-        d.forward_thrust,
-        d.back_thrust,
-        d.back_sink_limit_mps,
-        d.back_sink_gain,
-        d.handoff_s,
-        d.roll_limit_rad,
-        d.forward_done_cosine,
-        d.back_done_cosine,
-    ]
+    Settings {
+        n1: fields.or(1, d.forward_rate_radps),
+        n2: fields.or(2, d.forward_done_rad),
+        n3: fields.or(3, d.forward_max_tilt_rad),
+        n4: fields.or(4, d.min_airspeed_mps),
+        n5: fields.or(5, d.back_rate_radps),
+        n6: fields.or(6, d.back_done_rad),
+        n7: fields.or(7, d.timeout_s),
+        n8: fields.or(8, d.min_height_m),
+        n9: fields.or(9, d.plane_min_height_m),
+        n10: fields.or(10, d.forward_thrust),
+        n11: fields.or(11, d.back_thrust),
+        n12: fields.or(12, d.back_sink_limit_mps),
+        n13: fields.or(13, d.back_sink_gain),
+        n14: fields.or(14, d.handoff_s),
+        n15: fields.or(15, d.roll_limit_rad),
+        n16: fields.or(16, d.forward_done_cosine),
+        n17: fields.or(17, d.back_done_cosine),
+    }
 }
 
-// The quadplane's default settings.
-fn quadplane_defaults() -> [f32; 18] {
+// A quadplane's settings, likewise.
+fn quadplane(fields: Fields) -> Settings {
     let d = LiftTransitionConfig::defaults();
-    [
-        0.0,
-        d.min_airspeed_mps,
-        d.lift_ramp_s,
-        d.timeout_s,
-        d.min_height_m,
-        d.plane_min_height_m,
-        d.back_ramp_s,
-        d.back_speed_mps,
-        d.back_timeout_s,
-        d.back_decel_mps2,
-        d.back_decel_i,
-        d.forward_thrust,
-        d.pusher_slew_per_s,
-        d.forward_pitch_max_rad,
-        d.handoff_s,
-        d.roll_limit_rad,
-        0.0,
-        0.0,
-    ]
-}
-
-// The numbers of a line that names none.
-fn defaults(names: Names) -> [f32; 18] {
-    match names {
-        Names::Prime => [0.0; 18],
-        Names::Step => [0.0; 18],
-        Names::Tailsitter => tailsitter_defaults(),
-        Names::Quadplane => quadplane_defaults(),
-    }
-}
-
-// The numbers that words name.
-pub(crate) fn by_name(names: Names, text: &[u8], from: usize, to: usize) -> Fields {
-    Fields::new(defaults(names)).words(names, text, from, to)
-}
-
-// The settings that words are, in their order.
-fn in_order(airframe: Airframe, text: &[u8], from: usize, to: usize) -> Fields {
-    let mut f = Fields::new([0.0; 18]);
-    let mut n = 0;
-    let mut at = find(text, from, to, Set::Blank, false);
-    while at < to {
-        let end = find(text, at + 1, to, Set::Blank, true);
-        n = next(n);
-        f = f.value(n, text, at, end);
-        at = find(text, end, to, Set::Blank, false);
-    }
-    if n == settings_count(airframe) {
-        f
-    } else {
-        f.bad(Why::Part(PartWhy::Count(airframe, n)), 0, 0)
+    Settings {
+        n1: fields.or(1, d.min_airspeed_mps),
+        n2: fields.or(2, d.lift_ramp_s),
+        n3: fields.or(3, d.timeout_s),
+        n4: fields.or(4, d.min_height_m),
+        n5: fields.or(5, d.plane_min_height_m),
+        n6: fields.or(6, d.back_ramp_s),
+        n7: fields.or(7, d.back_speed_mps),
+        n8: fields.or(8, d.back_timeout_s),
+        n9: fields.or(9, d.back_decel_mps2),
+        n10: fields.or(10, d.back_decel_i),
+        n11: fields.or(11, d.forward_thrust),
+        n12: fields.or(12, d.pusher_slew_per_s),
+        n13: fields.or(13, d.forward_pitch_max_rad),
+        n14: fields.or(14, d.handoff_s),
+        n15: fields.or(15, d.roll_limit_rad),
+        n16: 0.0,
+        n17: 0.0,
     }
 }
 
 // Settings: by name if the line has a '=' or no word, else in their order.
-pub(crate) fn settings(airframe: Airframe, text: &[u8], from: usize, to: usize) -> Fields {
-    let has_words = find(text, from, to, Set::Blank, false) < to;
-    let has_no_name = find(text, from, to, Set::Equals, true) >= to;
-    if both(has_words, has_no_name) {
-        in_order(airframe, text, from, to)
+pub(crate) fn settings(airframe: Airframe, words: &[u8]) -> Result<Settings, Problem<'_>> {
+    let names = Names::from(airframe);
+    let fields = if words.is_empty() || words.contains(&b'=') {
+        Fields::by_name(names, words)?
     } else {
-        by_name(settings_of(airframe), text, from, to)
-    }
+        Fields::in_order(names, words)?
+    };
+    Ok(match airframe {
+        Airframe::Tailsitter => tailsitter(fields),
+        Airframe::Quadplane => quadplane(fields),
+    })
 }

@@ -1,5 +1,5 @@
 -- The numbers of a card are binary32 values, whatever its bytes. Assumes nothing.
-use Rattle.std.specs.Prelude.{if◌then◌else◌}
+use Rattle.std.specs.Prelude.{if◌then◌else◌, Option, Some, None}
 use mathlib.Core.Bool.{Bool, true, false}
 use mathlib.Core.List.{List, [], ◌∷◌}
 use Prim.Native.Nat.{ℕ, ◌+◌, ◌*◌}
@@ -7,15 +7,12 @@ use lib.Dec.{eqb, leb}
 use lib.Ieee.{Float, binary32}
 use lib.Ieee.Bits.{of_bits-fits}
 use Rattle.numbers.specs.Numbers.{IsBinary32}
-use Rattle.machines.specs.declared.Airspeed.TheVariants as airspeed
 use Rattle.joined.specs.declared.call.Call.{Call}
 use Rattle.joined.specs.Calls.{settings_by, airspeed_of, vehicle_by, step_input_by}
 use Rattle.joined.specs.Binary32.{Binary32Settings, Binary32Airspeed, Binary32Step, Binary32Call, Binary32Calls}
 use Rattle.card.specs.Bytes.{u32_at}
 use Rattle.card.specs.Format.{kind_at, option_at, number_at, settings_at, step_input_at, cut_for, record_at}
 use Rattle.card.specs.Transcript.{with_call, calls_of}
-use Rattle.card.specs.declared.record.Record.{Record}
-use Rattle.card.specs.declared.record.Record.TheVariants as says
 
 number : (card : List ℕ) (i k : ℕ) → IsBinary32 (number_at card i k)
 number card i k = of_bits-fits binary32 (u32_at card (80 * i + 4 * k))
@@ -27,7 +24,7 @@ settings_binary32 card i = let n = number card i in (n 1, n 2, n 3, n 4, n 5, n 
 speed : (option : ℕ) (x : Float) → IsBinary32 x → Binary32Airspeed (airspeed_of option x)
 speed option x p = go (leb 2 option)
   where
-    go : (b : Bool) → Binary32Airspeed (if b then airspeed.Present x else airspeed.Absent)
+    go : (b : Bool) → Binary32Airspeed (if b then Some x else None)
     go true = p
     go false = tt
 
@@ -36,20 +33,20 @@ unfolding step_input_by vehicle_by
 step card i = let n = number card i in (n 1, (n 2, (n 3, n 4, n 5), (n 6, n 7), (n 8, n 9, n 10, n 11), speed (option_at card i) (number_at card i 12) (n 12)), n 13, n 14, n 15)
 
 -- ---- a record, and the records passed
-abbrev ByRecord : Record → Type 0
-ByRecord (says.Known c) = Binary32Call c
-ByRecord says.Unknown = Unit {0}
+abbrev ByRecord : Option Call → Type 0
+ByRecord (Some c) = Binary32Call c
+ByRecord None = Unit {0}
 
-record Binary32Record (r : Record) : Type 0 where
+record Binary32Record (r : Option Call) : Type 0 where
   numbers : ByRecord r
 
-known : {c : Call} → Binary32Call c → Binary32Record (says.Known c)
+known : {c : Call} → Binary32Call c → Binary32Record (Some c)
 known p = record { numbers = p }
 
-unknown : Binary32Record says.Unknown
+unknown : Binary32Record None
 unknown = record { numbers = tt }
 
-either : (b : Bool) {x y : Record} → Binary32Record x → Binary32Record y → Binary32Record (if b then x else y)
+either : (b : Bool) {x y : Option Call} → Binary32Record x → Binary32Record y → Binary32Record (if b then x else y)
 either true p q = p
 either false p q = q
 
@@ -72,9 +69,9 @@ at_record card i =
     (either (eqb (kind_at card i) 4) (either (eqb (option_at card i) 0) (known (settings_binary32 card i)) unknown)
     unknown)))
 
-with_call_lem : (r : Record) (cs : List Call) → ByRecord r → Binary32Calls cs → Binary32Calls (with_call r cs)
-with_call_lem (says.Known c) cs p q = (p, q)
-with_call_lem says.Unknown cs p q = q
+with_call_lem : (r : Option Call) (cs : List Call) → ByRecord r → Binary32Calls cs → Binary32Calls (with_call r cs)
+with_call_lem (Some c) cs p q = (p, q)
+with_call_lem None cs p q = q
 
 pub calls_binary32 : (card passed : List ℕ) → Binary32Calls (calls_of card passed)
 calls_binary32 card [] = tt

@@ -1,5 +1,6 @@
 -- The calls of a card: every record passed is one, so each has its answer and its line. The last call stands first. Assumes nothing.
-use mathlib.Core.Path.{◌≡◌, refl}
+use Rattle.std.specs.Prelude.{Option, Some, None}
+use mathlib.Core.Path.{◌≡◌, refl, ap}
 use mathlib.Core.Bool.{Bool, true, false}
 use mathlib.Core.List.{List, [], ◌∷◌, ◌++◌}
 use Prim.Native.Nat.{ℕ, zero, suc}
@@ -11,16 +12,17 @@ use Rattle.machines.specs.Refusals.{reason_of}
 use Rattle.joined.specs.declared.call.Call.{Call}
 use Rattle.joined.specs.declared.call.Call.TheVariants as call
 use Rattle.joined.specs.declared.joined.Joined.{Joined}
+use Rattle.joined.specs.Joined.{call_of}
+use Rattle.joined.specs.Shown.{shown_of}
 use Rattle.joined.specs.List.{after, answers_of}
 use Rattle.card.specs.Format.{next_at, cut_for, record_at, is_known}
 use Rattle.card.specs.Chain.{records, member, follow, chain_of}
+use Rattle.card.specs.Text.{record_line}
 use Rattle.card.specs.Transcript.{with_call, calls_of, lines_of, run_lines}
-use Rattle.card.specs.declared.record.Record.{Record}
-use Rattle.card.specs.declared.record.Record.TheVariants as says
 use Rattle.card.proofs.Laws.Cases.{impossible, follow_if}
 
 -- ---- the option of a cut is its reason's number (section 10)
-pub cut_by_number : (why : ModeRefusal) → cut_for (reason_of why) ≡ says.Known (call.Cut why)
+pub cut_by_number : (why : ModeRefusal) → cut_for (reason_of why) ≡ Some (call.Cut why)
 cut_by_number reason.Unsupported = refl
 cut_by_number reason.OnGround = refl
 cut_by_number reason.BelowMinAltitude = refl
@@ -50,9 +52,9 @@ pub known : (card : List ℕ) → Known card (chain_of card).passed
 known card = follow_known card (records card) [] (next_at card 0) tt
 
 -- ---- so there are as many calls as records passed
-one_more : (r : Record) (cs : List Call) → is_known r ≡ true → length (with_call r cs) ≡ suc (length cs)
-one_more (says.Known c) cs e = refl
-one_more says.Unknown cs e = impossible cc
+one_more : (r : Option Call) (cs : List Call) → is_known r ≡ true → length (with_call r cs) ≡ suc (length cs)
+one_more (Some c) cs e = refl
+one_more None cs e = impossible cc
 
 length_calls : (card passed : List ℕ) → Known card passed → length (calls_of card passed) ≡ length passed
 length_calls card [] h = refl
@@ -62,18 +64,9 @@ pub all_called : (card : List ℕ) → length (calls_of card (chain_of card).pas
 all_called card = length_calls card (chain_of card).passed (known card)
 
 -- ---- one record more
-module _ (card : List ℕ) (j : Joined) (i : ℕ) (passed : List ℕ) where
-  pub after_more : after (after j (calls_of card passed)) (calls_of card (i ∷ [])) ≡ after j (calls_of card (i ∷ passed))
-  after_more = go (record_at card i)
-    where
-      go : (r : Record) → after (after j (calls_of card passed)) (with_call r []) ≡ after j (with_call r (calls_of card passed))
-      go (says.Known c) = refl
-      go says.Unknown = refl
+module _ (card : List ℕ) (j : Joined) (i : ℕ) (passed : List ℕ) {c : Call} (is : record_at card i ≡ Some c) where
+  pub after_known : after j (calls_of card (i ∷ passed)) ≡ (call_of (after j (calls_of card passed)) c).state
+  after_known = ap (λ (r : Option Call). after j (with_call r (calls_of card passed))) is
 
-  pub lines_more : is_known (record_at card i) ≡ true → run_lines card j passed ++ run_lines card (after j (calls_of card passed)) (i ∷ []) ≡ run_lines card j (i ∷ passed)
-  lines_more = go (record_at card i)
-    where
-      go : (r : Record) → is_known r ≡ true
-          → run_lines card j passed ++ lines_of (i ∷ []) (answers_of (after j (calls_of card passed)) (with_call r [])) ≡ lines_of (i ∷ passed) (answers_of j (with_call r (calls_of card passed)))
-      go (says.Known c) e = refl
-      go says.Unknown e = impossible cc
+  pub lines_known : run_lines card j (i ∷ passed) ≡ run_lines card j passed ++ record_line i (shown_of (call_of (after j (calls_of card passed)) c).answer)
+  lines_known = ap (λ (r : Option Call). lines_of (i ∷ passed) (answers_of j (with_call r (calls_of card passed)))) is

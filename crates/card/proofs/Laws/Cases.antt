@@ -1,5 +1,5 @@
 -- What several laws go by: the tests of a link and of a check, over any answers to them, and a case that cannot be. Assumes nothing.
-use Rattle.std.specs.Prelude.{if◌then◌else◌}
+use Rattle.std.specs.Prelude.{if◌then◌else◌, Ok, Err}
 use mathlib.Core.Path.{◌≡◌}
 use mathlib.Core.Bool.{Bool}
 use mathlib.Core.List.{List}
@@ -8,7 +8,6 @@ use native.Mathlib.Omega.{arith}
 use lib.ListN.{length}
 use Rattle.card.specs.Chain.{Chain, stopped, Outcome}
 use Rattle.card.specs.declared.refusal.CardRefusal.TheVariants as refusal
-use Rattle.card.specs.declared.chain.Checked.TheVariants as checked
 
 pub impossible : {X : Type 0} → ◌≡◌ {A = ℕ} 0 1 → X
 impossible e = let none : ⊥ = omega arith in absurd none
@@ -16,14 +15,14 @@ impossible e = let none : ⊥ = omega arith in absurd none
 -- `follow` at a link, with `on` the chain after it
 abbrev pub follow_if : Bool → Bool → Bool → Bool → List ℕ → Chain → Chain
 follow_if ends past met known passed on =
-    if ends then stopped (checked.Walk (length passed)) passed
-    else if past then stopped (checked.Refused refusal.NextIndex) passed
-    else if met then stopped (checked.Refused refusal.PassedRecord) passed
+    if ends then stopped (Ok (length passed)) passed
+    else if past then stopped (Err refusal.NextIndex) passed
+    else if met then stopped (Err refusal.PassedRecord) passed
     else if known then on
-    else stopped (checked.Refused refusal.KindOrOption) passed
+    else stopped (Err refusal.KindOrOption) passed
 
 -- `outcome_of` with the marks m, and `good` if the card is whole and there is room for its marks
 abbrev pub outcome_if : Bool → Bool → Outcome → List ℕ → Outcome
 outcome_if whole room good m =
-    if whole then (if room then good else record { answer = checked.Refused refusal.Marks; marks = m })
-    else record { answer = checked.Refused refusal.Length; marks = m }
+    if whole then (if room then good else record { answer = Err refusal.Marks; marks = m })
+    else record { answer = Err refusal.Length; marks = m }

@@ -1,4 +1,5 @@
 -- Document 01, section 7's example: the card, byte by byte, and its transcript, the paper's nine lines, with the thrust of document 02, 2.2, on lines 2 to 4. Assumes nothing.
+use Rattle.std.specs.Prelude.{Result, Ok, Err}
 use mathlib.Core.Path.{◌≡◌, refl, ap, ◌∙◌}
 use mathlib.Core.Bool.{Bool, true, false}
 use mathlib.Core.List.{List, [], ◌∷◌}
@@ -14,10 +15,9 @@ use Rattle.card.specs.Format.{record_at, header_of}
 use Rattle.card.specs.Chain.{whole, records, outcome_by, outcome_of}
 use Rattle.card.specs.Text.{hex_of, decimal_of}
 use Rattle.card.specs.Transcript.{transcript_by, transcript_of}
-use Rattle.card.specs.declared.record.Header.{Header}
-use Rattle.card.specs.declared.record.Header.TheVariants as header
-use Rattle.card.specs.declared.chain.Checked.{Checked}
 use Rattle.card.proofs.Laws.Cases.{impossible, outcome_if}
+use Rattle.card.specs.declared.refusal.CardRefusal.{CardRefusal}
+use Rattle.joined.specs.declared.joined.Joined.{Joined}
 
 -- "quadplane settings 9 4 15 5 0 2 5 10 2 0 1 .25 .0625 0 .75; prime z 0; steps with z 10, demand .5, attitude 1 0 0 0, bank 0: ..; the rest 0"
 unfoldable pub example_card : List ℕ
@@ -80,14 +80,14 @@ same_answer : (card m m' : List ℕ) → leb (records card) (length m) ≡ leb (
 unfolding outcome_of
 same_answer card m m' = go (leb (records card) (length m)) (leb (records card) (length m')) (whole (length card)) (header_of card)
   where
-    by : (x : Header) → (outcome_by x card m).answer ≡ (outcome_by x card m').answer
-    by (header.Refused why) = refl
-    by (header.Joined j) = refl
+    by : (x : Result Joined CardRefusal) → (outcome_by x card m).answer ≡ (outcome_by x card m').answer
+    by (Err why) = refl
+    by (Ok j) = refl
 
-    answer_if : Bool → Bool → Header → List ℕ → Checked
+    answer_if : Bool → Bool → Result Joined CardRefusal → List ℕ → Result ℕ CardRefusal
     answer_if w b x l = (outcome_if w b (outcome_by x card l) l).answer
 
-    go : (b b' w : Bool) (x : Header) → b ≡ b' → answer_if w b x m ≡ answer_if w b' x m'
+    go : (b b' w : Bool) (x : Result Joined CardRefusal) → b ≡ b' → answer_if w b x m ≡ answer_if w b' x m'
     go true true true x e = by x
     go false false true x e = refl
     go b b' false x e = refl

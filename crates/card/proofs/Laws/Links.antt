@@ -1,5 +1,6 @@
 -- As many links as a card has records are enough: more give the same chain, and a 9 is given just where a record already passed is met. Each link that goes on marks a record that was
 -- not marked. Assumes nothing.
+use Rattle.std.specs.Prelude.{Err}
 use mathlib.Core.Path.{◌≡◌, refl}
 use mathlib.Core.Bool.{Bool, true, false, ◌||◌}
 use mathlib.Core.List.{List, [], ◌∷◌}
@@ -10,7 +11,6 @@ use borrow.Author.Tests.{eqb-true, eqb-false, leb-false}
 use Rattle.card.specs.Format.{next_at, record_at, is_known}
 use Rattle.card.specs.Chain.{records, member, marked, Chain, follow, chain_of}
 use Rattle.card.specs.declared.refusal.CardRefusal.TheVariants as refusal
-use Rattle.card.specs.declared.chain.Checked.TheVariants as checked
 use Rattle.card.proofs.Laws.Cases.{impossible, follow_if}
 use Rattle.card.proofs.Laws.Marks.{zeros, zeros_none, zeros_marked}
 
@@ -50,8 +50,8 @@ abbrev pub meets_again : List ℕ → List ℕ → Bool
 meets_again card passed = member (next_at card (last_of passed)) passed
 
 pub record NineExactly (card : List ℕ) (chain : Chain) : Type 0 where
-  pub only : chain.answer ≡ checked.Refused refusal.PassedRecord → meets_again card chain.passed ≡ true
-  pub always : meets_again card chain.passed ≡ true → chain.answer ≡ checked.Refused refusal.PassedRecord
+  pub only : chain.answer ≡ Err refusal.PassedRecord → meets_again card chain.passed ≡ true
+  pub always : meets_again card chain.passed ≡ true → chain.answer ≡ Err refusal.PassedRecord
 
 -- the records passed are in the card, and the header is none of them
 abbrev Inside : List ℕ → List ℕ → Type 0

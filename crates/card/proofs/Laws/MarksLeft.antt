@@ -1,5 +1,5 @@
 -- The marks that a check leaves, byte by byte (document 01, section 9). Assumes nothing.
-use Rattle.std.specs.Prelude.{if◌then◌else◌}
+use Rattle.std.specs.Prelude.{if◌then◌else◌, Result, Ok, Err}
 use mathlib.Core.Path.{◌≡◌, refl, sym, ap, ◌∙◌}
 use mathlib.Core.Bool.{Bool, true, false}
 use mathlib.Core.List.{List, [], ◌∷◌, ◌++◌}
@@ -12,11 +12,11 @@ use borrow.Author.Tests.{leb-true}
 use Rattle.card.specs.Bytes.{byte_at}
 use Rattle.card.specs.Format.{header_of}
 use Rattle.card.specs.Chain.{whole, records, member, chain_of, marked, outcome_by, outcome_of}
-use Rattle.card.specs.declared.record.Header.{Header}
-use Rattle.card.specs.declared.record.Header.TheVariants as header
 use Rattle.card.proofs.Laws.Cases.{outcome_if}
 use Rattle.card.proofs.Laws.Marks.{length_marked, mark_at}
 use Rattle.card.proofs.Laws.Walk.{least}
+use Rattle.card.specs.declared.refusal.CardRefusal.{CardRefusal}
+use Rattle.joined.specs.declared.joined.Joined.{Joined}
 
 -- "1 for the header and each record passed, 0 for the other records, rest unchanged"; n records, and the marks before and after
 pub record EachMark (n : ℕ) (passed m m' : List ℕ) : Type 0 where
@@ -52,9 +52,9 @@ module _ (n : ℕ) (passed m : List ℕ) (h : 0 < n) (room : n ≤ length m) whe
       }
 
 -- the records that a check passes after the header, by what the header says
-abbrev pub passed_by : Header → List ℕ → List ℕ
-passed_by (header.Refused why) card = []
-passed_by (header.Joined j) card = (chain_of card).passed
+abbrev pub passed_by : Result Joined CardRefusal → List ℕ → List ℕ
+passed_by (Err why) card = []
+passed_by (Ok j) card = (chain_of card).passed
 
 -- on all but 6 and 7
 pub marks_of_check : (card m : List ℕ) → whole (length card) ≡ true → leb (records card) (length m) ≡ true
@@ -65,9 +65,9 @@ marks_of_check card m w r = simp (w, r) (go (header_of card))
     h : 0 < records card
     h = omega (arith, least (length card) w)
 
-    go : (x : Header) → EachMark (records card) (passed_by x card) m (outcome_by x card m).marks
-    go (header.Refused why) = each_mark (records card) [] m h (leb-true _ _ r)
-    go (header.Joined j) = each_mark (records card) (chain_of card).passed m h (leb-true _ _ r)
+    go : (x : Result Joined CardRefusal) → EachMark (records card) (passed_by x card) m (outcome_by x card m).marks
+    go (Err why) = each_mark (records card) [] m h (leb-true _ _ r)
+    go (Ok j) = each_mark (records card) (chain_of card).passed m h (leb-true _ _ r)
 
 -- "unchanged on 6, 7"
 pub kept_on_length : (card m : List ℕ) → whole (length card) ≡ false → (outcome_of card m).marks ≡ m

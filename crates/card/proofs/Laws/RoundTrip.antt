@@ -1,23 +1,18 @@
 -- A record of a written card is read back: its kind, option, link and numbers, and so the call that it holds, wherever it stands. Assumes nothing.
+use Rattle.std.specs.Prelude.{Option, Some, None}
 use mathlib.Core.Path.{◌≡◌, refl, sym, ap, ◌∙◌}
 use mathlib.Core.Bool.{true}
 use mathlib.Core.List.{List, [], ◌∷◌, ◌++◌}
-use Prim.Native.Nat.{ℕ, zero, suc, ◌+◌, ◌*◌, ◌/◌, ◌%◌, ◌<◌, ◌≤◌}
-use native.Mathlib.Nat.{add_assoc, le_of_suc-le-suc}
+use Prim.Native.Nat.{ℕ, zero, suc, ◌+◌, ◌*◌, ◌/◌, ◌%◌, ◌<◌}
+use native.Mathlib.Nat.{le_of_suc-le-suc}
 use native.Mathlib.Omega.{arith}
-use lib.ListN.{length, get_or, get_or-append}
-use lib.Seq.{get_or-append-add}
+use lib.ListN.{length, get_or}
 use lib.Dec.{leb}
 use lib.Ieee.{Float, binary32}
 use lib.Ieee.Bits.{of_bits-to_bits}
 use Rattle.numbers.specs.Numbers.{IsBinary32, bits_of, float_of}
 use Rattle.machines.specs.declared.FlightRegime.{FlightRegime}
 use Rattle.machines.specs.declared.FlightRegime.TheVariants as regime
-use Rattle.machines.specs.declared.Airspeed.{Airspeed}
-use Rattle.machines.specs.declared.Airspeed.TheVariants as airspeed
-use Rattle.machines.specs.declared.ModeRefusal.{ModeRefusal}
-use Rattle.machines.specs.declared.ModeRefusal.TheVariants as reason
-use Rattle.machines.specs.Refusals.{reason_of}
 use Rattle.joined.specs.declared.settings.Settings.{Settings}
 use Rattle.joined.specs.declared.call.StepInput.{StepInput}
 use Rattle.joined.specs.declared.call.Call.{Call}
@@ -26,11 +21,14 @@ use Rattle.joined.specs.declared.machine.Airframe.{Airframe}
 use Rattle.joined.specs.Calls.{settings_by, vehicle_by, step_input_by, requested_of, airspeed_of}
 use Rattle.joined.specs.Binary32.{Binary32Settings, Binary32Airspeed, Binary32Step, Binary32Call}
 use Rattle.card.specs.Bytes.{u16_at, u32_at, le32, words_bytes}
-use Rattle.card.specs.Format.{settings_kind, kind_at, option_at, next_at, number_at, settings_at, cut_for, record_at}
+use Rattle.card.specs.Format.{kind_number, record_part, kind_at, option_at, next_at, number_at, settings_at, record_at}
+use Rattle.card.specs.declared.kind.Kind.{Kind}
+use Rattle.card.specs.declared.kind.Kind.TheVariants as kind
 use Rattle.card.specs.declared.encode.Encoded.{Encoded}
-use Rattle.card.specs.declared.record.Record.TheVariants as says
 use Rattle.card.specs.Encoding.{request_number, present_number, speed_bits, used_settings, settings_numbers, step_numbers, encode_step, encode_settings, encode_of, used_call}
 use Rattle.card.specs.Writer.{record_bytes}
+use Rattle.card.proofs.Laws.Calls.{cut_by_number}
+use Rattle.card.proofs.Laws.Parts.{part_is, kind_in, option_in, next_in, number_in}
 
 u32_back : (n : ℕ) → n % 256 + n / 256 % 256 * 256 + n / 65536 % 256 * 65536 + n / 16777216 * 16777216 ≡ n
 u32_back n = omega arith
@@ -57,77 +55,59 @@ word_run (w ∷ ws) (suc j) h =
 
 -- ---- record i of a card is `e`, followed by record `next`
 pub record Holds (card : List ℕ) (i next : ℕ) (e : Encoded) : Type 0 where
-  pub kind : kind_at card i ≡ e.kind
+  pub kind : kind_at card i ≡ kind_number e.kind
   pub option : option_at card i ≡ e.option
   pub link : next_at card i ≡ next
   pub words : (j : ℕ) → j < 19 → number_at card i (suc j) ≡ float_of (get_or e.numbers j 0)
 
 -- as it is where its bytes stand behind those of i records
-module _ (card p b q : List ℕ) (i : ℕ) (is : card ≡ p ++ (b ++ q)) (before : length p ≡ 80 * i) (long : length b ≡ 80) where
-  byte_in : (o : ℕ) → o < 80 → get_or card (80 * i + o) 0 ≡ get_or b o 0
-  byte_in o l =
-      ap (λ (c : List ℕ). get_or c (80 * i + o) 0) is ∙ ap (λ (n : ℕ). get_or (p ++ (b ++ q)) (n + o) 0) (sym before)
-      ∙ get_or-append-add p (b ++ q) o 0 ∙ get_or-append b q 0 o (omega (arith, long))
+module _ (card p b q : List ℕ) (i : ℕ) (is : card ≡ p ++ (b ++ q)) (before : length p ≡ 80 * i) (long : length b ≡ 80) (next : ℕ) (e : Encoded) (same : b ≡ record_bytes next e)
+    (many : length e.numbers ≡ 19) where
+  part : record_part card i ≡ record_bytes next e
+  part = part_is card p b q i is before long ∙ same
 
-  u32_in : (o : ℕ) → o + 4 ≤ 80 → u32_at card (80 * i + o) ≡ u32_at b o
-  unfolding u32_at
-  u32_in o l = simp (add_assoc (80 * i) o, byte_in o (omega arith), byte_in (o + 1) (omega arith), byte_in (o + 2) (omega arith), byte_in (o + 3) (omega arith))
+  word_back : (j : ℕ) → j < 19 → u32_at (record_bytes next e) (0 + 4 * suc j) ≡ get_or e.numbers j 0
+  word_back j l =
+      let a : 0 + 4 * suc j ≡ 4 + 4 * j = omega arith in
+      ap (u32_at (record_bytes next e)) a ∙ past _ _ _ _ (words_bytes e.numbers) (4 * j) ∙ word_run e.numbers j (omega (arith, many))
 
-  u16_in : (o : ℕ) → o + 2 ≤ 80 → u16_at card (80 * i + o) ≡ u16_at b o
+  link_back : next_at (record_bytes next e) 0 ≡ next
   unfolding u16_at
-  u16_in o l = simp (add_assoc (80 * i) o, byte_in o (omega arith), byte_in (o + 1) (omega arith))
+  link_back = let r : next % 256 + next / 256 * 256 ≡ next = omega arith in r
 
-  module _ (next : ℕ) (e : Encoded) (same : b ≡ record_bytes next e) (many : length e.numbers ≡ 19) where
-    word_back : (j : ℕ) → j < 19 → u32_at card (80 * i + 4 * suc j) ≡ get_or e.numbers j 0
-    word_back j l =
-        let a : 4 * suc j ≡ 4 + 4 * j = omega arith in
-        ap (λ (n : ℕ). u32_at card (80 * i + n)) a ∙ u32_in (4 + 4 * j) (omega arith) ∙ ap (λ (x : List ℕ). u32_at x (4 + 4 * j)) same
-        ∙ past _ _ _ _ (words_bytes e.numbers) (4 * j) ∙ word_run e.numbers j (omega (arith, many))
-
-    kind_back : kind_at card i ≡ e.kind
-    kind_back =
-        let a : 80 * i ≡ 80 * i + 0 = omega arith in
-        ap (λ (n : ℕ). get_or card n 0) a ∙ byte_in 0 (omega arith) ∙ ap (λ (x : List ℕ). get_or x 0 0) same
-
-    next_back : next_at card i ≡ next
-    unfolding u16_at
-    next_back = u16_in 2 (omega arith) ∙ ap (λ (x : List ℕ). u16_at x 2) same ∙ (let r : next % 256 + next / 256 * 256 ≡ next = omega arith in r)
-
-    pub holds : Holds card i next e
-    holds = record { kind = kind_back; option = byte_in 1 (omega arith) ∙ ap (λ (x : List ℕ). get_or x 1 0) same; link = next_back; words = λ j l. ap float_of (word_back j l) }
+  pub holds : Holds card i next e
+  holds =
+      record {
+        kind = sym (kind_in card i) ∙ ap (λ (x : List ℕ). kind_at x 0) part;
+        option = sym (option_in card i) ∙ ap (λ (x : List ℕ). option_at x 0) part;
+        link = sym (next_in card i) ∙ ap (λ (x : List ℕ). next_at x 0) part ∙ link_back;
+        words = λ j l. sym (number_in card i (suc j) (omega arith)) ∙ ap (λ (x : List ℕ). number_at x 0 (suc j)) part ∙ ap float_of (word_back j l);
+      }
 
 -- ---- what is written of a call gives it back
 back : (x : Float) → IsBinary32 x → float_of (bits_of x) ≡ x
 back x f = of_bits-to_bits binary32 x f
 
-cut_back : (why : ModeRefusal) → cut_for (reason_of why) ≡ says.Known (call.Cut why)
-cut_back reason.Unsupported = refl
-cut_back reason.OnGround = refl
-cut_back reason.BelowMinAltitude = refl
-cut_back reason.TransitionTimeout = refl
-cut_back reason.RollError = refl
-cut_back reason.BelowPlaneMinAltitude = refl
-
 -- an option is one that a step may have, and tells the request and the airspeed
-record Told (r : FlightRegime) (v : Airspeed) : Type 0 where
+record Told (r : FlightRegime) (v : Option Float) : Type 0 where
   small : leb (request_number r + present_number v) 3 ≡ true
   request : requested_of (request_number r + present_number v) ≡ r
   speed : Binary32Airspeed v → airspeed_of (request_number r + present_number v) (float_of (speed_bits v)) ≡ v
 
-told : (r : FlightRegime) (v : Airspeed) → Told r v
-told regime.Copter (airspeed.Present x) = record { small = refl; request = refl; speed = λ f. ap airspeed.Present (back x f) }
-told regime.Copter airspeed.Absent = record { small = refl; request = refl; speed = λ f. refl }
-told regime.Plane (airspeed.Present x) = record { small = refl; request = refl; speed = λ f. ap airspeed.Present (back x f) }
-told regime.Plane airspeed.Absent = record { small = refl; request = refl; speed = λ f. refl }
+told : (r : FlightRegime) (v : Option Float) → Told r v
+told regime.Copter (Some x) = record { small = refl; request = refl; speed = λ f. ap Some (back x f) }
+told regime.Copter None = record { small = refl; request = refl; speed = λ f. refl }
+told regime.Plane (Some x) = record { small = refl; request = refl; speed = λ f. ap Some (back x f) }
+told regime.Plane None = record { small = refl; request = refl; speed = λ f. refl }
 
 module _ {card : List ℕ} {i next : ℕ} where
   -- number j + 1, where its bits are written
   number : {e : Encoded} → Holds card i next e → (j : ℕ) → j < 19 → (x : Float) → IsBinary32 x → get_or e.numbers j 0 ≡ bits_of x → number_at card i (suc j) ≡ x
   number h j l x g r = h.words j l ∙ ap float_of r ∙ back x g
 
-  pub settings_back : (kind : ℕ) (a : Airframe) (s : Settings) → Binary32Settings (used_settings a s) → Holds card i next (encode_settings kind a s) → settings_at card i ≡ used_settings a s
+  pub settings_back : (k : Kind) (a : Airframe) (s : Settings) → Binary32Settings (used_settings a s) → Holds card i next (encode_settings k a s) → settings_at card i ≡ used_settings a s
   unfolding settings_by settings_numbers
-  settings_back kind a s f h =
+  settings_back k a s f h =
       let u : Settings = used_settings a s in
       let n = number h in
       simp (
@@ -150,7 +130,7 @@ module _ {card : List ℕ} {i next : ℕ} where
         n 16 (omega arith) u.n17 f.16 refl,
       )
 
-  step_back : (x : StepInput) → Binary32Step x → Holds card i next (encode_step x) → record_at card i ≡ says.Known (call.Step x)
+  step_back : (x : StepInput) → Binary32Step x → Holds card i next (encode_step x) → record_at card i ≡ Some (call.Step x)
   unfolding record_at step_input_by vehicle_by step_numbers
   step_back x f h =
       let t : Told x.requested x.state.airspeed = told x.requested x.state.airspeed in
@@ -179,9 +159,9 @@ module _ {card : List ℕ} {i next : ℕ} where
       )
 
   -- as its airframe uses it
-  pub call_back : (a : Airframe) (c : Call) → Binary32Call (used_call a c) → Holds card i next (encode_of a c) → record_at card i ≡ says.Known (used_call a c)
+  pub call_back : (a : Airframe) (c : Call) → Binary32Call (used_call a c) → Holds card i next (encode_of a c) → record_at card i ≡ Some (used_call a c)
   unfolding record_at
   call_back a (call.Prime z) f h = simp (h.kind, h.option, h.words 1 (omega arith), back z f)
   call_back a (call.Step x) f h = step_back x f h
-  call_back a (call.Cut why) f h = simp (h.kind, h.option) (cut_back why)
-  call_back a (call.Settings s) f h = simp (h.kind, h.option, settings_back settings_kind a s f h)
+  call_back a (call.Cut why) f h = simp (h.kind, h.option) (cut_by_number why)
+  call_back a (call.Settings s) f h = simp (h.kind, h.option, settings_back kind.Settings a s f h)

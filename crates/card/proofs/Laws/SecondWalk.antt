@@ -1,41 +1,43 @@
 -- The walk of a run, along a chain that was found good: what holds before each record, and again after it. Assumes nothing.
+use Rattle.std.specs.Prelude.{Some, Result, Ok, Err}
 use mathlib.Core.Path.{◌≡◌, refl, sym, ap, ◌∙◌}
 use mathlib.Core.Bool.{Bool, true, false}
 use mathlib.Core.List.{List, [], ◌∷◌}
-use Prim.Native.Nat.{ℕ, zero, suc, ◌+◌, ◌-◌, ◌*◌, ◌<◌, ◌≤◌}
+use Prim.Native.Nat.{ℕ, zero, suc, ◌+◌, ◌*◌, ◌<◌, ◌≤◌}
 use native.Mathlib.Omega.{arith}
 use lib.Dec.{eqb, leb}
 use lib.ListN.{length}
 use borrow.Author.Tests.{leb-false}
 use Rattle.joined.specs.declared.joined.Joined.{Joined}
+use Rattle.joined.specs.declared.call.Call.{Call}
+use Rattle.joined.specs.Joined.{call_of}
+use Rattle.joined.specs.Shown.{shown_of}
 use Rattle.joined.specs.List.{after}
 use Rattle.card.specs.Format.{next_at, record_at, is_known, header_of}
 use Rattle.card.specs.Chain.{records, whole, member, Chain, stopped, follow, chain_of, outcome_by, outcome_of}
-use Rattle.card.specs.Text.{Written}
+use Rattle.card.specs.Text.{record_line, Written}
 use Rattle.card.specs.Transcript.{calls_of, run_lines}
 use Rattle.card.specs.declared.refusal.CardRefusal.{CardRefusal}
 use Rattle.card.specs.declared.refusal.CardRefusal.TheVariants as refusal
-use Rattle.card.specs.declared.record.Header.{Header}
-use Rattle.card.specs.declared.record.Header.TheVariants as header
-use Rattle.card.specs.declared.chain.Checked.TheVariants as checked
 use Rattle.card.proofs.Laws.Cases.{impossible, follow_if, outcome_if}
 use Rattle.card.proofs.Laws.Walk.{most}
+use Rattle.card.proofs.Laws.Lines.{answer_long}
 use Rattle.card.proofs.Laws.Written.{both}
-use Rattle.card.proofs.Laws.Calls.{after_more, lines_more}
+use Rattle.card.proofs.Laws.Calls.{after_known, lines_known}
 
-module _ (card : List ℕ) (chain : Chain) (count : ℕ) (walk : chain.answer ≡ checked.Walk count) where
-  not_refused : {X : Type 0} (why : CardRefusal) (passed : List ℕ) → stopped (checked.Refused why) passed ≡ chain → X
+module _ (card : List ℕ) (chain : Chain) (count : ℕ) (walk : chain.answer ≡ Ok count) where
+  not_refused : {X : Type 0} (why : CardRefusal) (passed : List ℕ) → stopped (Err why) passed ≡ chain → X
   not_refused why passed e =
-      let r : checked.Refused why ≡ checked.Walk count = ap (λ (x : Chain). x.answer) e ∙ walk in impossible cc
+      let r : Err why ≡ Ok count = ap (λ (x : Chain). x.answer) e ∙ walk in impossible cc
 
-  ended : (passed : List ℕ) → stopped (checked.Walk (length passed)) passed ≡ chain → length passed ≡ count
+  ended : (passed : List ℕ) → stopped (Ok (length passed)) passed ≡ chain → length passed ≡ count
   ended passed e =
-      let s : checked.Walk (length passed) ≡ checked.Walk count = ap (λ (x : Chain). x.answer) e ∙ walk in
+      let s : Ok (length passed) ≡ Ok count = ap (λ (x : Chain). x.answer) e ∙ walk in
       cc
 
   -- a link of a good chain either ends it or passes a record
   turn : {X : Type 0} (links : ℕ) (passed : List ℕ) (link : ℕ) → follow links card passed link ≡ chain
-      → (stopped (checked.Walk (length passed)) passed ≡ chain → X)
+      → (stopped (Ok (length passed)) passed ≡ chain → X)
       → ((l : ℕ) → links ≡ suc l → link < records card → is_known (record_at card link) ≡ true → follow l card (link ∷ passed) (next_at card link) ≡ chain → X) → X
   turn zero passed link e done on = not_refused refusal.PassedRecord passed e
   turn {X} (suc l) passed link e done on = go (eqb link 0) (leb (records card) link) (member link passed) (is_known (record_at card link)) refl refl e
@@ -67,16 +69,16 @@ module _ (card : List ℕ) (chain : Chain) (count : ℕ) (walk : chain.answer �
       counts links (link ∷ passed) (next_at card link) (ap (λ (x : ℕ). follow x card (link ∷ passed) (next_at card link)) t ∙ w))
 
 -- a walk counts the records that it passes
-pub walk_count : (card : List ℕ) (count : ℕ) → (chain_of card).answer ≡ checked.Walk count → length (chain_of card).passed ≡ count
+pub walk_count : (card : List ℕ) (count : ℕ) → (chain_of card).answer ≡ Ok count → length (chain_of card).passed ≡ count
 walk_count card count e = counts card (chain_of card) count e (records card) [] (next_at card 0) refl
 
 -- there are fewer of them than records
-pub walk_fewer : (card : List ℕ) (count : ℕ) → (chain_of card).answer ≡ checked.Walk count → count < records card
+pub walk_fewer : (card : List ℕ) (count : ℕ) → (chain_of card).answer ≡ Ok count → count < records card
 walk_fewer card count e = omega (arith, bounds card (chain_of card) count e (records card) [] (next_at card 0) refl)
 
--- before each record: the machine and the text so far are those of the records passed
-pub record Running (card out₀ : List ℕ) (start : Joined) (count : ℕ) (out : List ℕ) (joined : Joined) (link at left : ℕ) : Type 0 where
-  pub walk : (chain_of card).answer ≡ checked.Walk count
+-- before each record: the machine and the text so far are those of the `done` records passed
+pub record Running (card out₀ : List ℕ) (start : Joined) (count : ℕ) (out : List ℕ) (joined : Joined) (link at done : ℕ) : Type 0 where
+  pub walk : (chain_of card).answer ≡ Ok count
   pub fewer : count < records card
   pub small : length card ≤ 64000
   pub room : 32000 ≤ length out₀
@@ -85,12 +87,12 @@ pub record Running (card out₀ : List ℕ) (start : Joined) (count : ℕ) (out 
   pub rest : follow links card passed link ≡ chain_of card
   pub machine : joined ≡ after start (calls_of card passed)
   pub wrote : Written out₀ 0 (run_lines card start passed) out at
-  pub counted : left + length passed ≡ count
+  pub counted : length passed ≡ done
   pub short : at ≤ 40 * length passed
   pub kept : length out ≡ length out₀
 
-pub begin : (card d : List ℕ) (start : Joined) (count : ℕ) → whole (length card) ≡ true → (chain_of card).answer ≡ checked.Walk count → 32000 ≤ length d
-    → Running card d start count d start (next_at card 0) 0 count
+pub begin : (card d : List ℕ) (start : Joined) (count : ℕ) → whole (length card) ≡ true → (chain_of card).answer ≡ Ok count → 32000 ≤ length d
+    → Running card d start count d start (next_at card 0) 0 0
 begin card d start count h k l =
     record {
       walk = k;
@@ -102,22 +104,22 @@ begin card d start count h k l =
       rest = refl;
       machine = refl;
       wrote = record { text = refl; next = refl };
-      counted = omega arith;
+      counted = refl;
       short = omega arith;
       kept = refl;
     }
 
-module _ {card out₀ : List ℕ} {start : Joined} {count : ℕ} {out : List ℕ} {joined : Joined} {link at left : ℕ} (g : Running card out₀ start count out joined link at left) where
+module _ {card out₀ : List ℕ} {start : Joined} {count : ℕ} {out : List ℕ} {joined : Joined} {link at done : ℕ} (g : Running card out₀ start count out joined link at done) where
   -- with records left the link goes to one
-  pub here : 0 < left → link < records card
+  pub here : done < count → (link < records card) × (is_known (record_at card link) ≡ true)
   here h =
       turn card (chain_of card) count g.walk g.links g.passed link g.rest
-      (λ w. omega (arith, ended card (chain_of card) count g.walk g.passed w, g.counted))
-      (λ l s i k w. i)
+      (λ w. let none : ⊥ = omega (arith, ended card (chain_of card) count g.walk g.passed w, g.counted) in absurd none)
+      (λ l s i k w. (i, k))
 
-  pub next : {out' : List ℕ} {joined' : Joined} {r : ℕ} → 0 < left → joined' ≡ after joined (calls_of card (link ∷ [])) → Written out at (run_lines card joined (link ∷ [])) out' r
-      → r ≤ at + 40 → length out' ≡ length out → Running card out₀ start count out' joined' (next_at card link) r (left - 1)
-  next {out'} {joined'} {r} h e w b k =
+  pub next : {out' : List ℕ} {c : Call} {r : ℕ} → done < count → record_at card link ≡ Some c → Written out at (record_line link (shown_of (call_of joined c).answer)) out' r
+      → length out' ≡ length out → Running card out₀ start count out' (call_of joined c).state (next_at card link) r (done + 1)
+  next {out'} {c} {r} h e w k =
       turn card (chain_of card) count g.walk g.links g.passed link g.rest
       (λ u. let none : ⊥ = omega (arith, ended card (chain_of card) count g.walk g.passed u, g.counted) in absurd none)
       (λ l s i is u.
@@ -129,16 +131,16 @@ module _ {card out₀ : List ℕ} {start : Joined} {count : ℕ} {out : List ℕ
         passed = link ∷ g.passed;
         links = l;
         rest = u;
-        machine = e ∙ ap (λ (x : Joined). after x (calls_of card (link ∷ []))) g.machine ∙ after_more card start link g.passed;
-        wrote = rw (lines_more card start link g.passed is) at (both g.wrote (rw g.machine at w));
+        machine = ap (λ (x : Joined). (call_of x c).state) g.machine ∙ sym (after_known card start link g.passed e);
+        wrote = rw (lines_known card start link g.passed e) (both g.wrote (rw g.machine at w));
         counted = omega (arith, g.counted);
-        short = omega (arith, g.short);
+        short = omega (arith, g.short, w.next, answer_long link (call_of joined c).answer);
         kept = k ∙ g.kept;
       })
 
   -- with none left the text is that of the whole chain
-  pub done : left ≤ 0 → Written out₀ 0 (run_lines card start (chain_of card).passed) out at
-  done h =
+  pub done_all : count ≤ done → Written out₀ 0 (run_lines card start (chain_of card).passed) out at
+  done_all h =
       turn card (chain_of card) count g.walk g.links g.passed link g.rest
       (λ w. rw (ap (λ (x : Chain). x.passed) w) at g.wrote)
       (λ l s i k u.
@@ -149,15 +151,15 @@ module _ {card out₀ : List ℕ} {start : Joined} {count : ℕ} {out : List ℕ
 pub record Found (card : List ℕ) (count : ℕ) : Type 0 where
   pub whole_card : whole (length card) ≡ true
   pub machine : Joined
-  pub header_joined : header_of card ≡ header.Joined machine
-  pub walk : (chain_of card).answer ≡ checked.Walk count
+  pub header_joined : header_of card ≡ Ok machine
+  pub walk : (chain_of card).answer ≡ Ok count
 
-pub found : (card m : List ℕ) (count : ℕ) → checked.Walk count ≡ (outcome_of card m).answer → Found card count
+pub found : (card m : List ℕ) (count : ℕ) → Ok count ≡ (outcome_of card m).answer → Found card count
 unfolding outcome_of
 found card m count e = go (whole (length card)) (leb (records card) (length m)) (header_of card) refl refl e
   where
-    go : (b₁ b₂ : Bool) (h : Header) → whole (length card) ≡ b₁ → header_of card ≡ h → checked.Walk count ≡ (outcome_if b₁ b₂ (outcome_by h card m) m).answer → Found card count
-    go true true (header.Joined j) l k w = record { whole_card = l; machine = j; header_joined = k; walk = sym w }
-    go true true (header.Refused why) l k w = impossible cc
+    go : (b₁ b₂ : Bool) (h : Result Joined CardRefusal) → whole (length card) ≡ b₁ → header_of card ≡ h → Ok count ≡ (outcome_if b₁ b₂ (outcome_by h card m) m).answer → Found card count
+    go true true (Ok j) l k w = record { whole_card = l; machine = j; header_joined = k; walk = sym w }
+    go true true (Err why) l k w = impossible cc
     go true false h l k w = impossible cc
     go false b₂ h l k w = impossible cc

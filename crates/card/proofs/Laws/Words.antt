@@ -1,10 +1,11 @@
 -- The bytes of a run of numbers and of the records of a list: their count, and one more at the end. Assumes nothing.
 use mathlib.Core.Path.{◌≡◌, refl, sym, ap, ◌∙◌}
 use mathlib.Core.List.{List, [], ◌∷◌, ◌++◌, append_assoc, append-nil, reverse, reverse_aux-append}
-use Prim.Native.Nat.{ℕ, ◌+◌, ◌*◌, ◌<◌}
+use Prim.Native.Nat.{ℕ, ◌+◌, ◌*◌, ◌/◌, ◌%◌, ◌<◌}
 use native.Mathlib.Omega.{arith}
 use native.Mathlib.Numerals.{add-one}
-use lib.ListN.{length, get_or, take, length-reverse}
+use lib.ListN.{length, get_or, take, replicate, length-reverse}
+use Rattle.std.proofs.lemmas.List.{drop_all}
 use lib.Seq.{take-suc, length-take-le}
 use Rattle.joined.specs.declared.call.Call.{Call}
 use Rattle.joined.specs.declared.call.Call.TheVariants as call
@@ -14,6 +15,7 @@ use Rattle.card.specs.declared.encode.Encoded.{Encoded}
 use Rattle.card.specs.Text.{Written}
 use Rattle.card.specs.Bytes.{le32, words_bytes}
 use Rattle.card.specs.Writer.{record_bytes, next_of, records_of}
+use Rattle.card.proofs.Laws.Written.{at_start}
 use Rattle.card.specs.Encoding.{encode_of, encode_header, step_numbers, settings_numbers}
 
 words_append : (s t : List ℕ) → words_bytes (s ++ t) ≡ words_bytes s ++ words_bytes t
@@ -24,6 +26,11 @@ pub length_words : (ws : List ℕ) → length (words_bytes ws) ≡ 4 * length ws
 unfolding le32
 length_words [] = refl
 length_words (w ∷ ws) = omega (arith, length_words ws)
+
+-- the library's bytes of a number of 32 bits, the highest of which is its remainder too
+pub le32_is : (n : ℕ) → n < 4294967296 → n % 256 ∷ n / 256 % 256 ∷ n / 65536 % 256 ∷ n / 16777216 % 256 ∷ [] ≡ le32 n
+unfolding le32
+le32_is n h = let e : n / 16777216 % 256 ≡ n / 16777216 = omega arith in ap (λ (b : ℕ). n % 256 ∷ n / 256 % 256 ∷ n / 65536 % 256 ∷ b ∷ []) e
 
 pub words_more : (ws : List ℕ) (k : ℕ) → k < length ws → words_bytes (take (k + 1) ws) ≡ words_bytes (take k ws) ++ le32 (get_or ws k 0)
 words_more ws k h =
@@ -57,7 +64,7 @@ call_numbers a (call.Cut why) = refl
 call_numbers a (call.Settings s) = refl
 
 -- and 80 bytes
-length_bytes : (next : ℕ) (e : Encoded) → length e.numbers ≡ 19 → length (record_bytes next e) ≡ 80
+pub length_bytes : (next : ℕ) (e : Encoded) → length e.numbers ≡ 19 → length (record_bytes next e) ≡ 80
 length_bytes next e h = omega (arith, length_words e.numbers, h)
 
 pub length_record : (a : Airframe) (next : ℕ) (c : Call) → length (record_bytes next (encode_of a c)) ≡ 80
@@ -65,6 +72,12 @@ length_record a next c = length_bytes next (encode_of a c) (call_numbers a c)
 
 pub length_header : (a : Airframe) (s : Settings) (next : ℕ) → length (record_bytes next (encode_header a s)) ≡ 80
 length_header a s next = length_bytes next (encode_header a s) (header_numbers a s)
+
+-- what is written of a record over 80 zeros is the record
+pub whole_record : (next : ℕ) (e : Encoded) {bytes : List ℕ} {r : ℕ} → Written (replicate 80 0) 0 (record_bytes next e) bytes r → length e.numbers ≡ 19 → bytes ≡ record_bytes next e
+whole_record next e w h =
+    let long = length_bytes next e h in
+    at_start w (omega (arith, w.next, long)) ∙ ap (λ (r : List ℕ). record_bytes next e ++ r) (drop_all (length (record_bytes next e)) (replicate 80 0) (omega (arith, long))) ∙ append-nil (record_bytes next e)
 
 pub at_80 : {d s d₁ : List ℕ} {r : ℕ} → Written d 0 s d₁ r → r ≡ 0 + 80 → Written d 0 s d₁ 80
 at_80 w e = record { text = w.text; next = sym e ∙ w.next }

@@ -1,12 +1,11 @@
 -- Laws of writing: a text, and from its end on another. Assumes nothing.
 use mathlib.Core.Path.{◌≡◌, sym, ap, ◌∙◌}
-use mathlib.Core.List.{List, [], ◌∷◌, ◌++◌, append_assoc}
-use Prim.Native.Nat.{ℕ, suc, ◌+◌, ◌<◌, ◌≤◌}
+use mathlib.Core.List.{List, [], ◌∷◌, ◌++◌}
+use Prim.Native.Nat.{ℕ, suc, ◌+◌, ◌≤◌}
 use native.Mathlib.Omega.{arith}
-use native.Mathlib.Numerals.{add-one}
 use native.Mathlib.Nat.{add-suc, suc-add, add-zero, zero-add, add_assoc}
-use lib.ListN.{length, get_or, set, take, drop, length-append}
-use lib.Seq.{sets, sets-eq, take-suc, length-take-le}
+use lib.ListN.{length, set, take, drop, length-append}
+use lib.Seq.{sets, sets-eq, length-take-le, take_at}
 use Rattle.card.specs.Text.{Written}
 
 sets_append : (l : List ℕ) (i : ℕ) (s t : List ℕ) → sets l i (s ++ t) ≡ sets (sets l i s) (i + length s) t
@@ -26,18 +25,11 @@ module _ {d d₁ d₂ : List ℕ} {at r₁ r₂ : ℕ} {s t : List ℕ} where
         next = b.next ∙ ap (λ (k : ℕ). k + length t) a.next ∙ add_assoc at (length s) (length t) ∙ ap (λ (k : ℕ). at + k) (sym (length-append s t));
       }
 
--- a word with a space after it, and then the rest of the line
-pub more : {d d₁ d₂ : List ℕ} {at r₁ r₂ : ℕ} (s : List ℕ) {t : List ℕ} → Written d at (s ++ 32 ∷ []) d₁ r₁ → Written d₁ r₁ t d₂ r₂ → Written d at (s ++ 32 ∷ t) d₂ r₂
-more s {t} u v = rw (← append_assoc s (32 ∷ []) t) (both u v)
-
--- one byte more of a text
-pub byte : (d : List ℕ) (at : ℕ) (s : List ℕ) (i : ℕ) {d' : List ℕ} → i < length s → d' ≡ sets d at (take i s)
-    → set d' (at + i) (get_or s i 0) ≡ sets d at (take (i + 1) s)
-byte d at s i {d'} h e =
-    ap (λ (l : List ℕ). set l (at + i) (get_or s i 0)) e
-    ∙ ap (λ (k : ℕ). set (sets d at (take i s)) (at + k) (get_or s i 0)) (sym (length-take-le i s (omega arith)))
-    ∙ sym (sets_append d at (take i s) (get_or s i 0 ∷ []))
-    ∙ ap (sets d at) (sym (take-suc s i 0 h) ∙ ap (λ (k : ℕ). take k s) (sym (add-one i)))
+-- what stands in front of the end of a text
+pub in_front : {d d' : List ℕ} {at r : ℕ} {s : List ℕ} → Written d at s d' r → at + length s ≤ length d → take r d' ≡ take at d ++ s
+in_front {d} {d'} {at} {r} {s} w h =
+    ap (take r) (w.text ∙ sets-eq s d at h)
+    ∙ take_at (take at d ++ s) (drop (at + length s) d) r (length-append (take at d) s ∙ omega (arith, length-take-le at d, w.next))
 
 -- at the start of a buffer with room
 pub at_start : {d d' : List ℕ} {r : ℕ} {s : List ℕ} → Written d 0 s d' r → r ≤ length d → d' ≡ s ++ drop (length s) d

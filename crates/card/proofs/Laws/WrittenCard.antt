@@ -1,5 +1,6 @@
 -- Request 2.1, for every list of at most 799 calls and accepted settings, their numbers binary32 values: a written card is accepted, reading it gives the settings and the calls back, as the
 -- airframe uses them, writing what was read gives the same bytes, and its run is the list's. Assumes nothing.
+use Rattle.std.specs.Prelude.{Option, Some, Result, Ok, Err}
 use mathlib.Core.Path.{◌≡◌, refl, sym, ap, subst, ◌∙◌}
 use mathlib.Core.Bool.{true}
 use mathlib.Core.List.{List, [], ◌∷◌, ◌++◌, map, append_assoc}
@@ -16,31 +17,24 @@ use Rattle.joined.specs.declared.machine.Airframe.TheVariants as airframe
 use Rattle.joined.specs.declared.machine.Machine.{Machine}
 use Rattle.joined.specs.declared.machine.Machine.TheVariants as machine
 use Rattle.joined.specs.declared.joined.Joined.{Joined}
-use Rattle.joined.specs.declared.joined.JoinedUpdate.{JoinedUpdate}
-use Rattle.joined.specs.declared.joined.NewJoined.{NewJoined}
-use Rattle.joined.specs.declared.joined.NewJoined.TheVariants as made
-use Rattle.joined.specs.declared.answer.Answer.{Answer}
+use Rattle.machines.specs.declared.InputRefusal.{InputRefusal}
 use Rattle.joined.specs.Binary32.{Binary32Settings, Binary32Call, Binary32Calls}
 use Rattle.joined.specs.Machine.{airframe_of, set_machine_of}
-use Rattle.joined.specs.Joined.{new_of, set_by, call_of}
+use Rattle.joined.specs.Joined.{JoinedUpdate, new_of, set_by, call_of}
+use Rattle.joined.specs.Shown.{Answer}
 use Rattle.joined.specs.List.{after, answers_of}
 use Rattle.joined.specs.Claim.{Claim}
 use Rattle.joined.proofs.Laws.Moves.{airframe_kept}
 use Rattle.joined.proofs.Laws.Every.{claim}
-use Rattle.card.specs.Format.{header_kind, kind_at, option_at, next_at, settings_at, record_at, is_known, header_for, header_of}
+use Rattle.card.specs.Format.{airframe_kind, header_kind, kind_at, option_at, next_at, settings_at, record_at, is_known, header_for, header_of}
 use Rattle.card.specs.Encoding.{used_settings, encode_of, used_call}
 use Rattle.card.specs.Writer.{next_of, card_of, card_bytes, write_by, write_of}
 use Rattle.card.specs.Chain.{whole, records, Chain, stopped, chain_of, outcome_of}
 use Rattle.card.specs.Text.{end_line}
 use Rattle.card.specs.Transcript.{with_call, calls_of, lines_of, transcript_by, transcript_of}
-use Rattle.card.specs.declared.record.Record.{Record}
-use Rattle.card.specs.declared.record.Record.TheVariants as says
-use Rattle.card.specs.declared.record.Header.{Header}
-use Rattle.card.specs.declared.record.Header.TheVariants as header
-use Rattle.card.specs.declared.write.Wrote.TheVariants as wrote
-use Rattle.card.specs.declared.chain.Checked.TheVariants as checked
 use Rattle.card.proofs.Laws.RoundTrip.{Holds, settings_back, call_back}
 use Rattle.card.proofs.Laws.WrittenRecords.{used_binary32, used_call_binary32, length_used, same_card, Placed, placed, length_card, header_holds, call_holds, down, straight}
+use Rattle.card.specs.declared.refusal.CardRefusal.{CardRefusal}
 
 -- ---- what the airframe does not use is not told apart
 pub used_new : (a : Airframe) (s : Settings) → new_of a (used_settings a s) ≡ new_of a s
@@ -72,7 +66,7 @@ module _ (j : Joined) where
 
   after_used : (cs : List Call) → after j (used cs) ≡ after j cs
   after_used [] = refl
-  after_used (c ∷ cs) = ap (λ (u : JoinedUpdate). u.joined) (call_used cs c (after_used cs))
+  after_used (c ∷ cs) = ap (λ (u : JoinedUpdate). u.state) (call_used cs c (after_used cs))
 
   answers_used : (cs : List Call) → answers_of j (used cs) ≡ answers_of j cs
   answers_used [] = refl
@@ -84,7 +78,7 @@ in_list : (later : List Call) (c : Call) (earlier : List Call) → Binary32Calls
 in_list [] c earlier f = f.0
 in_list (d ∷ later) c earlier f = in_list later c earlier f.1
 
-used_back : (r : Record) (c : Call) (cs : List Call) → r ≡ says.Known c → with_call r cs ≡ c ∷ cs
+used_back : (r : Option Call) (c : Call) (cs : List Call) → r ≡ Some c → with_call r cs ≡ c ∷ cs
 used_back r c cs e = simp (e)
 
 module _ (a : Airframe) (s : Settings) (cs : List Call) (few : length cs ≤ 799) (bs : Binary32Settings s) (bc : Binary32Calls cs) where
@@ -100,7 +94,7 @@ module _ (a : Airframe) (s : Settings) (cs : List Call) (few : length cs ≤ 799
       (subst (λ (i : ℕ). Holds (card_of a s n (p.later ++ (p.here ∷ p.earlier))) (suc i) (next_of n (suc i)) (encode_of a p.here)) p.place
       (call_holds a s n p.later p.earlier p.here))
 
-  reads : {k : ℕ} (p : Placed cs k) → record_at written (suc k) ≡ says.Known (used_call a p.here)
+  reads : {k : ℕ} (p : Placed cs k) → record_at written (suc k) ≡ Some (used_call a p.here)
   reads p = call_back a p.here (used_call_binary32 a p.here (in_list p.later p.here p.earlier (subst Binary32Calls p.is bc))) (at p)
 
   has_size : length written ≡ card_bytes n
@@ -116,7 +110,7 @@ module _ (a : Airframe) (s : Settings) (cs : List Call) (few : length cs ≤ 799
   known : (i : ℕ) → i < n → is_known (record_at written (suc i)) ≡ true
   known i h = ap is_known (reads (placed cs i h))
 
-  has_chain : chain_of written ≡ stopped (checked.Walk n) (down n)
+  has_chain : chain_of written ≡ stopped (Ok n) (down n)
   has_chain = straight written n has_records links known
 
   -- the calls of the records of `earlier`
@@ -130,13 +124,13 @@ module _ (a : Airframe) (s : Settings) (cs : List Call) (few : length cs ≤ 799
   has_calls = ap (λ (x : Chain). calls_of written x.passed) has_chain ∙ calls_from [] cs refl
 
   has_settings : settings_at written 0 ≡ used_settings a s
-  has_settings = settings_back (header_kind a) a s (used_binary32 a s bs) (header_holds a s n cs)
+  has_settings = settings_back (airframe_kind a) a s (used_binary32 a s bs) (header_holds a s n cs)
 
   is_whole : whole (length written) ≡ true
   is_whole = ap whole has_size ∙ simp (le-leb 80 (80 * n + 80) (omega arith), le-leb (80 * n + 80) 64000 (omega arith), eq-eqb ((80 * n + 80) % 80) 0 (omega arith))
 
 -- ---- a header and a check that refuse nothing, and a writing of what is used
-header_by : (a : Airframe) (card : List ℕ) (made : NewJoined) → option_at card 0 ≡ 0 → kind_at card 0 ≡ header_kind a → new_of a (settings_at card 0) ≡ made → header_of card ≡ header_for made
+header_by : (a : Airframe) (card : List ℕ) (made : Result Joined InputRefusal) → option_at card 0 ≡ 0 → kind_at card 0 ≡ header_kind a → new_of a (settings_at card 0) ≡ made → header_of card ≡ header_for made
 unfolding header_of
 header_by airframe.Tailsitter card made o k e = simp (o, k, e)
 header_by airframe.Quadplane card made o k e = simp (o, k, e)
@@ -145,15 +139,15 @@ header_by airframe.Quadplane card made o k e = simp (o, k, e)
 pub header_read : (a : Airframe) (s : Settings) (n : ℕ) (cs : List Call) → Binary32Settings s → header_of (card_of a s n cs) ≡ header_for (new_of a s)
 header_read a s n cs bs =
     let h = header_holds a s n cs in
-    header_by a (card_of a s n cs) (new_of a s) h.option h.kind (ap (new_of a) (settings_back (header_kind a) a s (used_binary32 a s bs) h) ∙ used_new a s)
+    header_by a (card_of a s n cs) (new_of a s) h.option h.kind (ap (new_of a) (settings_back (airframe_kind a) a s (used_binary32 a s bs) h) ∙ used_new a s)
 
-answer_by : (card m : List ℕ) (j : Joined) → whole (length card) ≡ true → leb (records card) (length m) ≡ true → header_of card ≡ header.Joined j → (outcome_of card m).answer ≡ (chain_of card).answer
+answer_by : (card m : List ℕ) (j : Joined) → whole (length card) ≡ true → leb (records card) (length m) ≡ true → header_of card ≡ Ok j → (outcome_of card m).answer ≡ (chain_of card).answer
 unfolding outcome_of
 answer_by card m j w h e = simp (w, h, e)
 
-writing_by : (x : NewJoined) (a : Airframe) (s : Settings) (n : ℕ) (cs : List Call) (d : List ℕ) → write_by x a (used_settings a s) n (map (used_call a) cs) d ≡ write_by x a s n cs d
-writing_by (made.Refused why) a s n cs d = refl
-writing_by (made.Joined j) a s n cs d = ap (λ (b : List ℕ). record { answer = wrote.Card (card_bytes n); out = b ++ drop (card_bytes n) d }) (same_card a s n cs)
+writing_by : (x : Result Joined InputRefusal) (a : Airframe) (s : Settings) (n : ℕ) (cs : List Call) (d : List ℕ) → write_by x a (used_settings a s) n (map (used_call a) cs) d ≡ write_by x a s n cs d
+writing_by (Err why) a s n cs d = refl
+writing_by (Ok j) a s n cs d = ap (λ (b : List ℕ). record { answer = Ok (card_bytes n); out = b ++ drop (card_bytes n) d }) (same_card a s n cs)
 
 same_writing : (a : Airframe) (s : Settings) (n : ℕ) (cs : List Call) (d : List ℕ) → write_of a (used_settings a s) n (map (used_call a) cs) d ≡ write_of a s n cs d
 unfolding write_of
@@ -173,31 +167,31 @@ module _ (a : Airframe) (s : Settings) (cs : List Call) (j : Joined) where
     -- "calls are compared NaN as NaN": by equality, since lib.Ieee has one NaN
     pub kind : kind_at card 0 ≡ header_kind a
     pub settings : settings_at card 0 ≡ used_settings a s
-    pub header : header_of card ≡ header.Joined j
-    pub chain : chain_of card ≡ stopped (checked.Walk (length cs)) (down (length cs))
+    pub header : header_of card ≡ Ok j
+    pub chain : chain_of card ≡ stopped (Ok (length cs)) (down (length cs))
     pub calls : calls_read ≡ map (used_call a) cs
     -- "writing what was read from such a card gives the same bytes": the same card, and the same writing into any buffer
     pub same_bytes : card_of a (settings_at card 0) (length calls_read) calls_read ≡ card
     pub again : (d : List ℕ) → write_of a (settings_at card 0) (length calls_read) calls_read d ≡ write_of a s (length cs) cs d
     -- it is accepted, with marks enough
-    pub accepted : (m : List ℕ) → leb (records card) (length m) ≡ true → (outcome_of card m).answer ≡ checked.Walk (length cs)
+    pub accepted : (m : List ℕ) → leb (records card) (length m) ≡ true → (outcome_of card m).answer ≡ Ok (length cs)
     -- the machine answers what was read as it answers the list, and is left in the same state, so that the list theorem's claim of the list holds of the card's run; the transcript is of these answers
     pub answers : answers_of j calls_read ≡ answers_of j cs
     pub state : after j calls_read ≡ after j cs
     pub run : (m : List ℕ) → leb (records card) (length m) ≡ true → transcript_of card m ≡ lines_of (down (length cs)) (answers_of j cs) ++ end_line (length cs)
     pub list_claim : Claim a s j cs (answers_of j calls_read) (after j calls_read)
 
-module _ (a : Airframe) (s : Settings) (cs : List Call) (few : length cs ≤ 799) (bs : Binary32Settings s) (bc : Binary32Calls cs) (j : Joined) (new : new_of a s ≡ made.Joined j) where
+module _ (a : Airframe) (s : Settings) (cs : List Call) (few : length cs ≤ 799) (bs : Binary32Settings s) (bc : Binary32Calls cs) (j : Joined) (new : new_of a s ≡ Ok j) where
   abbrev c : List ℕ
   c = written a s cs few bs bc
 
   abbrev back : List Call
   back = calls_of c (chain_of c).passed
 
-  has_header : header_of c ≡ header.Joined j
+  has_header : header_of c ≡ Ok j
   has_header = header_read a s (length cs) cs bs ∙ ap header_for new
 
-  has_answer : (m : List ℕ) → leb (records c) (length m) ≡ true → (outcome_of c m).answer ≡ checked.Walk (length cs)
+  has_answer : (m : List ℕ) → leb (records c) (length m) ≡ true → (outcome_of c m).answer ≡ Ok (length cs)
   has_answer m h = answer_by c m j (is_whole a s cs few bs bc) h has_header ∙ ap (λ (x : Chain). x.answer) (has_chain a s cs few bs bc)
 
   -- what was read are the calls as the machine's airframe uses them
@@ -215,7 +209,7 @@ module _ (a : Airframe) (s : Settings) (cs : List Call) (few : length cs ≤ 799
 
   has_run : (m : List ℕ) → leb (records c) (length m) ≡ true → transcript_of c m ≡ lines_of (down (length cs)) (answers_of j cs) ++ end_line (length cs)
   has_run m h =
-      ap (transcript_by c (header_of c)) (has_answer m h) ∙ ap (λ (x : Header). transcript_by c x (checked.Walk (length cs))) has_header
+      ap (transcript_by c (header_of c)) (has_answer m h) ∙ ap (λ (x : Result Joined CardRefusal). transcript_by c x (Ok (length cs))) has_header
       ∙ ap (λ (l : List Answer). lines_of (chain_of c).passed l ++ end_line (length cs)) has_answers
       ∙ ap (λ (x : Chain). lines_of x.passed (answers_of j cs) ++ end_line (length cs)) (has_chain a s cs few bs bc)
 

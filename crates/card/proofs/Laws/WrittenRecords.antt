@@ -1,4 +1,5 @@
 -- The records of a written card stand where they are read, each holding its call, and the chain of a card whose records follow each other is walked to its end. Assumes nothing.
+use Rattle.std.specs.Prelude.{Ok}
 use mathlib.Core.Path.{◌≡◌, refl, sym, ap, subst, ◌∙◌}
 use mathlib.Core.Bool.{Bool, true, false}
 use mathlib.Core.List.{List, [], ◌∷◌, ◌++◌, map, append_assoc, append-nil}
@@ -20,7 +21,6 @@ use Rattle.card.specs.Encoding.{used_settings, encode_header, encode_of, used_ca
 use Rattle.card.specs.Writer.{record_bytes, next_of, header_record, records_of, card_of}
 use Rattle.card.specs.Chain.{records, member, stopped, follow, chain_of}
 use Rattle.card.specs.declared.encode.Encoded.{Encoded}
-use Rattle.card.specs.declared.chain.Checked.TheVariants as checked
 use Rattle.card.proofs.Laws.Words.{header_numbers, call_numbers, length_record, length_header}
 use Rattle.card.proofs.Laws.RoundTrip.{Holds, holds}
 
@@ -149,17 +149,17 @@ link_on card f passed link e₁ e₂ e₃ e₄ = simp (e₁, e₂, e₃, e₄)
 
 -- a card whose records follow each other is walked to its end
 module _ (card : List ℕ) (n : ℕ) (size : records card ≡ suc n) (links : (i : ℕ) → i ≤ n → next_at card i ≡ next_of n i) (known : (i : ℕ) → i < n → is_known (record_at card (suc i)) ≡ true) where
-  ends : follow 1 card (down n) 0 ≡ stopped (checked.Walk n) (down n)
-  ends = ap (λ (k : ℕ). stopped (checked.Walk k) (down n)) (length_down n)
+  ends : follow 1 card (down n) 0 ≡ stopped (Ok n) (down n)
+  ends = ap (λ (k : ℕ). stopped (Ok k) (down n)) (length_down n)
 
-  walks : (m k : ℕ) → n ≡ m + k → follow (suc m) card (down k) (next_of n k) ≡ stopped (checked.Walk n) (down n)
+  walks : (m k : ℕ) → n ≡ m + k → follow (suc m) card (down k) (next_of n k) ≡ stopped (Ok n) (down n)
   walks zero k e =
       let same : n ≡ k = omega arith in
-      subst (λ (x : ℕ). follow 1 card (down x) (next_of n x) ≡ stopped (checked.Walk n) (down n)) same (ap (follow 1 card (down n)) (next_last n) ∙ ends)
+      subst (λ (x : ℕ). follow 1 card (down x) (next_of n x) ≡ stopped (Ok n) (down n)) same (ap (follow 1 card (down n)) (next_last n) ∙ ends)
   walks (suc m) k e =
       ap (follow (suc (suc m)) card (down k)) (next_on n k (omega arith))
       ∙ link_on card (suc m) (down k) (suc k) (ne_eqb (suc k) 0 (λ e₀. omega arith)) (lt-leb (records card) (suc k) (omega (arith, size))) (not_in (suc k) k (omega arith)) (known k (omega arith))
       ∙ ap (follow (suc m) card (down (suc k))) (links (suc k) (omega arith)) ∙ walks m (suc k) (omega arith)
 
-  pub straight : chain_of card ≡ stopped (checked.Walk n) (down n)
+  pub straight : chain_of card ≡ stopped (Ok n) (down n)
   straight = ap (λ (f : ℕ). follow f card [] (next_at card 0)) size ∙ ap (follow (suc n) card []) (links 0 (omega arith)) ∙ walks n 0 (omega arith)

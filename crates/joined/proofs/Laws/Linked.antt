@@ -3,8 +3,12 @@ use mathlib.Core.Path.{refl}
 use mathlib.Core.Bool.{false}
 use prog.Linked.{Tree, leaf, fork, World, in_world, Holds, in_table}
 use prog.LinkedThreads.{HasT}
-use Rattle.joined.proofs.answer.letter.Symbol as answer_letter
-use Rattle.joined.proofs.answer.letter.TheLink as answer_letter-link
+use Rattle.joined.proofs.Destruct++none.drop.Symbol as Destruct__none_drop
+use Rattle.joined.proofs.Destruct++none.drop.TheLink as Destruct__none_drop-link
+use Rattle.joined.proofs.joined++machine++Machine+Quadplane+FnOnce.call_once.Symbol as joined__machine__Machine_Quadplane_FnOnce_call_once
+use Rattle.joined.proofs.joined++machine++Machine+Quadplane+FnOnce.call_once.TheLink as joined__machine__Machine_Quadplane_FnOnce_call_once-link
+use Rattle.joined.proofs.joined++machine++Machine+Tailsitter+FnOnce.call_once.Symbol as joined__machine__Machine_Tailsitter_FnOnce_call_once
+use Rattle.joined.proofs.joined++machine++Machine+Tailsitter+FnOnce.call_once.TheLink as joined__machine__Machine_Tailsitter_FnOnce_call_once-link
 use Rattle.joined.proofs.joined.Joined.answered.Symbol as joined_Joined_answered
 use Rattle.joined.proofs.joined.Joined.answered.TheLink as joined_Joined_answered-link
 use Rattle.joined.proofs.joined.Joined.answered_if.Symbol as joined_Joined_answered_if
@@ -23,8 +27,6 @@ use Rattle.joined.proofs.joined.Joined.new.Symbol as joined_Joined_new
 use Rattle.joined.proofs.joined.Joined.new.TheLink as joined_Joined_new-link
 use Rattle.joined.proofs.joined.Joined.prime.Symbol as joined_Joined_prime
 use Rattle.joined.proofs.joined.Joined.prime.TheLink as joined_Joined_prime-link
-use Rattle.joined.proofs.joined.Joined.refused.Symbol as joined_Joined_refused
-use Rattle.joined.proofs.joined.Joined.refused.TheLink as joined_Joined_refused-link
 use Rattle.joined.proofs.joined.Joined.set.Symbol as joined_Joined_set
 use Rattle.joined.proofs.joined.Joined.set.TheLink as joined_Joined_set-link
 use Rattle.joined.proofs.joined.Joined.step.Symbol as joined_Joined_step
@@ -35,6 +37,8 @@ use Rattle.joined.proofs.joined.Joined.stepped_by.Symbol as joined_Joined_steppe
 use Rattle.joined.proofs.joined.Joined.stepped_by.TheLink as joined_Joined_stepped_by-link
 use Rattle.joined.proofs.machine.Airframe.machine.Symbol as machine_Airframe_machine
 use Rattle.joined.proofs.machine.Airframe.machine.TheLink as machine_Airframe_machine-link
+use Rattle.joined.proofs.machine.Machine.cut_or.Symbol as machine_Machine_cut_or
+use Rattle.joined.proofs.machine.Machine.cut_or.TheLink as machine_Machine_cut_or-link
 use Rattle.joined.proofs.machine.Machine.cut_short.Symbol as machine_Machine_cut_short
 use Rattle.joined.proofs.machine.Machine.cut_short.TheLink as machine_Machine_cut_short-link
 use Rattle.joined.proofs.machine.Machine.decelerated.Symbol as machine_Machine_decelerated
@@ -59,48 +63,42 @@ use Rattle.joined.proofs.machine.Machine.thrust.Symbol as machine_Machine_thrust
 use Rattle.joined.proofs.machine.Machine.thrust.TheLink as machine_Machine_thrust-link
 use Rattle.joined.proofs.machine.Machine.update.Symbol as machine_Machine_update
 use Rattle.joined.proofs.machine.Machine.update.TheLink as machine_Machine_update-link
-use Rattle.joined.proofs.machine.MachineUpdate.cut_or.Symbol as machine_MachineUpdate_cut_or
-use Rattle.joined.proofs.machine.MachineUpdate.cut_or.TheLink as machine_MachineUpdate_cut_or-link
 use Rattle.joined.proofs.machine.abs.Symbol as machine_abs
 use Rattle.joined.proofs.machine.abs.TheLink as machine_abs-link
 use Rattle.joined.proofs.machine.is_transition.Symbol as machine_is_transition
 use Rattle.joined.proofs.machine.is_transition.TheLink as machine_is_transition-link
-use Rattle.joined.proofs.machine.new_quadplane.Symbol as machine_new_quadplane
-use Rattle.joined.proofs.machine.new_quadplane.TheLink as machine_new_quadplane-link
-use Rattle.joined.proofs.machine.new_tailsitter.Symbol as machine_new_tailsitter
-use Rattle.joined.proofs.machine.new_tailsitter.TheLink as machine_new_tailsitter-link
-use Rattle.joined.proofs.machine.of_lift.Symbol as machine_of_lift
-use Rattle.joined.proofs.machine.of_lift.TheLink as machine_of_lift-link
-use Rattle.joined.proofs.machine.of_transition.Symbol as machine_of_transition
-use Rattle.joined.proofs.machine.of_transition.TheLink as machine_of_transition-link
-use Rattle.joined.proofs.settings.Settings.lift_transition_config.Symbol as settings_Settings_lift_transition_config
-use Rattle.joined.proofs.settings.Settings.lift_transition_config.TheLink as settings_Settings_lift_transition_config-link
-use Rattle.joined.proofs.settings.Settings.transition_config.Symbol as settings_Settings_transition_config
-use Rattle.joined.proofs.settings.Settings.transition_config.TheLink as settings_Settings_transition_config-link
+use Rattle.joined.proofs.machine.new_either.Symbol as machine_new_either
+use Rattle.joined.proofs.machine.new_either.TheLink as machine_new_either-link
+use Rattle.joined.proofs.machine.of_either.Symbol as machine_of_either
+use Rattle.joined.proofs.machine.of_either.TheLink as machine_of_either-link
+use Rattle.joined.proofs.settings.LiftTransitionConfigFromSettings.from.Symbol as settings_LiftTransitionConfigFromSettings_from
+use Rattle.joined.proofs.settings.LiftTransitionConfigFromSettings.from.TheLink as settings_LiftTransitionConfigFromSettings_from-link
+use Rattle.joined.proofs.settings.TransitionConfigFromSettings.from.Symbol as settings_TransitionConfigFromSettings_from
+use Rattle.joined.proofs.settings.TransitionConfigFromSettings.from.TheLink as settings_TransitionConfigFromSettings_from-link
+use Rattle.joined.proofs.thrust.Modes.entered.Symbol as thrust_Modes_entered
+use Rattle.joined.proofs.thrust.Modes.entered.TheLink as thrust_Modes_entered-link
+use Rattle.joined.proofs.thrust.Modes.entry_pitch.Symbol as thrust_Modes_entry_pitch
+use Rattle.joined.proofs.thrust.Modes.entry_pitch.TheLink as thrust_Modes_entry_pitch-link
+use Rattle.joined.proofs.thrust.Modes.starts_handoff.Symbol as thrust_Modes_starts_handoff
+use Rattle.joined.proofs.thrust.Modes.starts_handoff.TheLink as thrust_Modes_starts_handoff-link
+use Rattle.joined.proofs.thrust.Thrusted.blend.Symbol as thrust_Thrusted_blend
+use Rattle.joined.proofs.thrust.Thrusted.blend.TheLink as thrust_Thrusted_blend-link
+use Rattle.joined.proofs.thrust.Thrusted.quadplane_thrust.Symbol as thrust_Thrusted_quadplane_thrust
+use Rattle.joined.proofs.thrust.Thrusted.quadplane_thrust.TheLink as thrust_Thrusted_quadplane_thrust-link
+use Rattle.joined.proofs.thrust.Thrusted.tailsitter_thrust.Symbol as thrust_Thrusted_tailsitter_thrust
+use Rattle.joined.proofs.thrust.Thrusted.tailsitter_thrust.TheLink as thrust_Thrusted_tailsitter_thrust-link
 use Rattle.joined.proofs.thrust.back_thrust.Symbol as thrust_back_thrust
 use Rattle.joined.proofs.thrust.back_thrust.TheLink as thrust_back_thrust-link
-use Rattle.joined.proofs.thrust.blend.Symbol as thrust_blend
-use Rattle.joined.proofs.thrust.blend.TheLink as thrust_blend-link
-use Rattle.joined.proofs.thrust.entered.Symbol as thrust_entered
-use Rattle.joined.proofs.thrust.entered.TheLink as thrust_entered-link
-use Rattle.joined.proofs.thrust.entry_pitch.Symbol as thrust_entry_pitch
-use Rattle.joined.proofs.thrust.entry_pitch.TheLink as thrust_entry_pitch-link
-use Rattle.joined.proofs.thrust.is_mode.Symbol as thrust_is_mode
-use Rattle.joined.proofs.thrust.is_mode.TheLink as thrust_is_mode-link
-use Rattle.joined.proofs.thrust.quadplane_thrust.Symbol as thrust_quadplane_thrust
-use Rattle.joined.proofs.thrust.quadplane_thrust.TheLink as thrust_quadplane_thrust-link
 use Rattle.joined.proofs.thrust.run_up.Symbol as thrust_run_up
 use Rattle.joined.proofs.thrust.run_up.TheLink as thrust_run_up-link
-use Rattle.joined.proofs.thrust.starts_handoff.Symbol as thrust_starts_handoff
-use Rattle.joined.proofs.thrust.starts_handoff.TheLink as thrust_starts_handoff-link
-use Rattle.joined.proofs.thrust.tailsitter_thrust.Symbol as thrust_tailsitter_thrust
-use Rattle.joined.proofs.thrust.tailsitter_thrust.TheLink as thrust_tailsitter_thrust-link
 use Rattle.numbers.proofs.Laws.Linked as numbers-has
 use Rattle.machines.proofs.Laws.Linked as machines-has
 
 pub table : Tree
 table =
-    fork leaf answer_letter.symbol answer_letter-link.entry (
+    fork leaf Destruct__none_drop.symbol Destruct__none_drop-link.entry (
+    fork leaf joined__machine__Machine_Quadplane_FnOnce_call_once.symbol joined__machine__Machine_Quadplane_FnOnce_call_once-link.entry (
+    fork leaf joined__machine__Machine_Tailsitter_FnOnce_call_once.symbol joined__machine__Machine_Tailsitter_FnOnce_call_once-link.entry (
     fork leaf joined_Joined_answered.symbol joined_Joined_answered-link.entry (
     fork leaf joined_Joined_answered_if.symbol joined_Joined_answered_if-link.entry (
     fork leaf joined_Joined_call.symbol joined_Joined_call-link.entry (
@@ -110,12 +108,12 @@ table =
     fork leaf joined_Joined_initial.symbol joined_Joined_initial-link.entry (
     fork leaf joined_Joined_new.symbol joined_Joined_new-link.entry (
     fork leaf joined_Joined_prime.symbol joined_Joined_prime-link.entry (
-    fork leaf joined_Joined_refused.symbol joined_Joined_refused-link.entry (
     fork leaf joined_Joined_set.symbol joined_Joined_set-link.entry (
     fork leaf joined_Joined_step.symbol joined_Joined_step-link.entry (
     fork leaf joined_Joined_stepped.symbol joined_Joined_stepped-link.entry (
     fork leaf joined_Joined_stepped_by.symbol joined_Joined_stepped_by-link.entry (
     fork leaf machine_Airframe_machine.symbol machine_Airframe_machine-link.entry (
+    fork leaf machine_Machine_cut_or.symbol machine_Machine_cut_or-link.entry (
     fork leaf machine_Machine_cut_short.symbol machine_Machine_cut_short-link.entry (
     fork leaf machine_Machine_decelerated.symbol machine_Machine_decelerated-link.entry (
     fork leaf machine_Machine_fresh_handoff.symbol machine_Machine_fresh_handoff-link.entry (
@@ -128,24 +126,20 @@ table =
     fork leaf machine_Machine_stepped_pitch.symbol machine_Machine_stepped_pitch-link.entry (
     fork leaf machine_Machine_thrust.symbol machine_Machine_thrust-link.entry (
     fork leaf machine_Machine_update.symbol machine_Machine_update-link.entry (
-    fork leaf machine_MachineUpdate_cut_or.symbol machine_MachineUpdate_cut_or-link.entry (
     fork leaf machine_abs.symbol machine_abs-link.entry (
     fork leaf machine_is_transition.symbol machine_is_transition-link.entry (
-    fork leaf machine_new_quadplane.symbol machine_new_quadplane-link.entry (
-    fork leaf machine_new_tailsitter.symbol machine_new_tailsitter-link.entry (
-    fork leaf machine_of_lift.symbol machine_of_lift-link.entry (
-    fork leaf machine_of_transition.symbol machine_of_transition-link.entry (
-    fork leaf settings_Settings_lift_transition_config.symbol settings_Settings_lift_transition_config-link.entry (
-    fork leaf settings_Settings_transition_config.symbol settings_Settings_transition_config-link.entry (
+    fork leaf machine_new_either.symbol machine_new_either-link.entry (
+    fork leaf machine_of_either.symbol machine_of_either-link.entry (
+    fork leaf settings_LiftTransitionConfigFromSettings_from.symbol settings_LiftTransitionConfigFromSettings_from-link.entry (
+    fork leaf settings_TransitionConfigFromSettings_from.symbol settings_TransitionConfigFromSettings_from-link.entry (
+    fork leaf thrust_Modes_entered.symbol thrust_Modes_entered-link.entry (
+    fork leaf thrust_Modes_entry_pitch.symbol thrust_Modes_entry_pitch-link.entry (
+    fork leaf thrust_Modes_starts_handoff.symbol thrust_Modes_starts_handoff-link.entry (
+    fork leaf thrust_Thrusted_blend.symbol thrust_Thrusted_blend-link.entry (
+    fork leaf thrust_Thrusted_quadplane_thrust.symbol thrust_Thrusted_quadplane_thrust-link.entry (
+    fork leaf thrust_Thrusted_tailsitter_thrust.symbol thrust_Thrusted_tailsitter_thrust-link.entry (
     fork leaf thrust_back_thrust.symbol thrust_back_thrust-link.entry (
-    fork leaf thrust_blend.symbol thrust_blend-link.entry (
-    fork leaf thrust_entered.symbol thrust_entered-link.entry (
-    fork leaf thrust_entry_pitch.symbol thrust_entry_pitch-link.entry (
-    fork leaf thrust_is_mode.symbol thrust_is_mode-link.entry (
-    fork leaf thrust_quadplane_thrust.symbol thrust_quadplane_thrust-link.entry (
-    fork leaf thrust_run_up.symbol thrust_run_up-link.entry (
-    fork leaf thrust_starts_handoff.symbol thrust_starts_handoff-link.entry (
-    fork leaf thrust_tailsitter_thrust.symbol thrust_tailsitter_thrust-link.entry leaf)))))))))))))))))))))))))))))))))))))))))))))
+    fork leaf thrust_run_up.symbol thrust_run_up-link.entry leaf)))))))))))))))))))))))))))))))))))))))))))
 
 module _ (W : World) (in_numbers : Holds W "numbers" numbers-has.table) (in_machines : Holds W "machines" machines-has.table) (in_joined : Holds W "joined" table) where
   has_machine_Machine_handoff_s : HasT (in_world W) false machine_Machine_handoff_s.code
@@ -156,25 +150,33 @@ module _ (W : World) (in_numbers : Holds W "numbers" numbers-has.table) (in_mach
   unfolding table
   has_joined_Joined_initial = joined_Joined_initial-link.has (in_world W) false (in_table W "joined" table in_joined joined_Joined_initial.symbol refl) has_machine_Machine_handoff_s (machines-has.has_deceleration_BackDeceleration_new W in_numbers in_machines) (machines-has.has_handoff_ThrustHandoff_inactive W in_numbers in_machines)
 
-  has_settings_Settings_lift_transition_config : HasT (in_world W) false settings_Settings_lift_transition_config.code
+  has_Destruct__none_drop : HasT (in_world W) false Destruct__none_drop.code
   unfolding table
-  has_settings_Settings_lift_transition_config = settings_Settings_lift_transition_config-link.has (in_world W) false (in_table W "joined" table in_joined settings_Settings_lift_transition_config.symbol refl)
+  has_Destruct__none_drop = Destruct__none_drop-link.has (in_world W) false (in_table W "joined" table in_joined Destruct__none_drop.symbol refl)
 
-  has_machine_new_quadplane : HasT (in_world W) false machine_new_quadplane.code
+  has_joined__machine__Machine_Quadplane_FnOnce_call_once : HasT (in_world W) false joined__machine__Machine_Quadplane_FnOnce_call_once.code
   unfolding table
-  has_machine_new_quadplane = machine_new_quadplane-link.has (in_world W) false (in_table W "joined" table in_joined machine_new_quadplane.symbol refl) has_settings_Settings_lift_transition_config (machines-has.has_lift_LiftTransition_new W in_numbers in_machines)
+  has_joined__machine__Machine_Quadplane_FnOnce_call_once = joined__machine__Machine_Quadplane_FnOnce_call_once-link.has (in_world W) false (in_table W "joined" table in_joined joined__machine__Machine_Quadplane_FnOnce_call_once.symbol refl)
 
-  has_settings_Settings_transition_config : HasT (in_world W) false settings_Settings_transition_config.code
+  has_joined__machine__Machine_Tailsitter_FnOnce_call_once : HasT (in_world W) false joined__machine__Machine_Tailsitter_FnOnce_call_once.code
   unfolding table
-  has_settings_Settings_transition_config = settings_Settings_transition_config-link.has (in_world W) false (in_table W "joined" table in_joined settings_Settings_transition_config.symbol refl)
+  has_joined__machine__Machine_Tailsitter_FnOnce_call_once = joined__machine__Machine_Tailsitter_FnOnce_call_once-link.has (in_world W) false (in_table W "joined" table in_joined joined__machine__Machine_Tailsitter_FnOnce_call_once.symbol refl)
 
-  has_machine_new_tailsitter : HasT (in_world W) false machine_new_tailsitter.code
+  has_machine_new_either : HasT (in_world W) false machine_new_either.code
   unfolding table
-  has_machine_new_tailsitter = machine_new_tailsitter-link.has (in_world W) false (in_table W "joined" table in_joined machine_new_tailsitter.symbol refl) has_settings_Settings_transition_config (machines-has.has_vtol_Transition_new W in_numbers in_machines)
+  has_machine_new_either = machine_new_either-link.has (in_world W) false (in_table W "joined" table in_joined machine_new_either.symbol refl)
+
+  has_settings_LiftTransitionConfigFromSettings_from : HasT (in_world W) false settings_LiftTransitionConfigFromSettings_from.code
+  unfolding table
+  has_settings_LiftTransitionConfigFromSettings_from = settings_LiftTransitionConfigFromSettings_from-link.has (in_world W) false (in_table W "joined" table in_joined settings_LiftTransitionConfigFromSettings_from.symbol refl)
+
+  has_settings_TransitionConfigFromSettings_from : HasT (in_world W) false settings_TransitionConfigFromSettings_from.code
+  unfolding table
+  has_settings_TransitionConfigFromSettings_from = settings_TransitionConfigFromSettings_from-link.has (in_world W) false (in_table W "joined" table in_joined settings_TransitionConfigFromSettings_from.symbol refl)
 
   has_machine_Airframe_machine : HasT (in_world W) false machine_Airframe_machine.code
   unfolding table
-  has_machine_Airframe_machine = machine_Airframe_machine-link.has (in_world W) false (in_table W "joined" table in_joined machine_Airframe_machine.symbol refl) has_machine_new_quadplane has_machine_new_tailsitter
+  has_machine_Airframe_machine = machine_Airframe_machine-link.has (in_world W) false (in_table W "joined" table in_joined machine_Airframe_machine.symbol refl) has_Destruct__none_drop has_joined__machine__Machine_Quadplane_FnOnce_call_once has_joined__machine__Machine_Tailsitter_FnOnce_call_once has_machine_new_either has_settings_LiftTransitionConfigFromSettings_from has_settings_TransitionConfigFromSettings_from (machines-has.has_lift_LiftTransition_new W in_numbers in_machines) (machines-has.has_vtol_Transition_new W in_numbers in_machines)
 
   pub has_joined_Joined_new : HasT (in_world W) false joined_Joined_new.code
   unfolding table
@@ -192,33 +194,25 @@ module _ (W : World) (in_numbers : Holds W "numbers" numbers-has.table) (in_mach
   unfolding table
   has_joined_Joined_handoff_if = joined_Joined_handoff_if-link.has (in_world W) false (in_table W "joined" table in_joined joined_Joined_handoff_if.symbol refl) has_machine_Machine_fresh_handoff
 
-  has_joined_Joined_refused : HasT (in_world W) false joined_Joined_refused.code
+  has_machine_of_either : HasT (in_world W) false machine_of_either.code
   unfolding table
-  has_joined_Joined_refused = joined_Joined_refused-link.has (in_world W) false (in_table W "joined" table in_joined joined_Joined_refused.symbol refl)
-
-  has_machine_of_lift : HasT (in_world W) false machine_of_lift.code
-  unfolding table
-  has_machine_of_lift = machine_of_lift-link.has (in_world W) false (in_table W "joined" table in_joined machine_of_lift.symbol refl)
-
-  has_machine_of_transition : HasT (in_world W) false machine_of_transition.code
-  unfolding table
-  has_machine_of_transition = machine_of_transition-link.has (in_world W) false (in_table W "joined" table in_joined machine_of_transition.symbol refl)
+  has_machine_of_either = machine_of_either-link.has (in_world W) false (in_table W "joined" table in_joined machine_of_either.symbol refl)
 
   has_machine_Machine_cut_short : HasT (in_world W) false machine_Machine_cut_short.code
   unfolding table
-  has_machine_Machine_cut_short = machine_Machine_cut_short-link.has (in_world W) false (in_table W "joined" table in_joined machine_Machine_cut_short.symbol refl) has_machine_of_lift has_machine_of_transition (machines-has.has_lift_LiftTransition_cut_short W in_numbers in_machines) (machines-has.has_vtol_Transition_cut_short W in_numbers in_machines)
+  has_machine_Machine_cut_short = machine_Machine_cut_short-link.has (in_world W) false (in_table W "joined" table in_joined machine_Machine_cut_short.symbol refl) has_Destruct__none_drop has_joined__machine__Machine_Quadplane_FnOnce_call_once has_joined__machine__Machine_Tailsitter_FnOnce_call_once has_machine_of_either (machines-has.has_lift_LiftTransition_cut_short W in_numbers in_machines) (machines-has.has_vtol_Transition_cut_short W in_numbers in_machines)
 
   pub has_joined_Joined_cut : HasT (in_world W) false joined_Joined_cut.code
   unfolding table
-  has_joined_Joined_cut = joined_Joined_cut-link.has (in_world W) false (in_table W "joined" table in_joined joined_Joined_cut.symbol refl) has_joined_Joined_answered has_joined_Joined_handoff_if has_joined_Joined_refused has_machine_Machine_cut_short
+  has_joined_Joined_cut = joined_Joined_cut-link.has (in_world W) false (in_table W "joined" table in_joined joined_Joined_cut.symbol refl) has_joined_Joined_answered has_joined_Joined_handoff_if has_machine_Machine_cut_short (machines-has.has_answer_Update_refused W in_numbers in_machines)
 
   has_joined_Joined_answered_if : HasT (in_world W) false joined_Joined_answered_if.code
   unfolding table
-  has_joined_Joined_answered_if = joined_Joined_answered_if-link.has (in_world W) false (in_table W "joined" table in_joined joined_Joined_answered_if.symbol refl) has_joined_Joined_answered has_joined_Joined_refused
+  has_joined_Joined_answered_if = joined_Joined_answered_if-link.has (in_world W) false (in_table W "joined" table in_joined joined_Joined_answered_if.symbol refl) has_joined_Joined_answered (machines-has.has_answer_Update_refused W in_numbers in_machines)
 
   has_machine_Machine_prime : HasT (in_world W) false machine_Machine_prime.code
   unfolding table
-  has_machine_Machine_prime = machine_Machine_prime-link.has (in_world W) false (in_table W "joined" table in_joined machine_Machine_prime.symbol refl) has_machine_of_lift has_machine_of_transition (machines-has.has_lift_LiftTransition_prime W in_numbers in_machines) (machines-has.has_vtol_Transition_prime W in_numbers in_machines)
+  has_machine_Machine_prime = machine_Machine_prime-link.has (in_world W) false (in_table W "joined" table in_joined machine_Machine_prime.symbol refl) has_Destruct__none_drop has_joined__machine__Machine_Quadplane_FnOnce_call_once has_joined__machine__Machine_Tailsitter_FnOnce_call_once has_machine_of_either (machines-has.has_lift_LiftTransition_prime W in_numbers in_machines) (machines-has.has_vtol_Transition_prime W in_numbers in_machines)
 
   pub has_joined_Joined_prime : HasT (in_world W) false joined_Joined_prime.code
   unfolding table
@@ -226,7 +220,7 @@ module _ (W : World) (in_numbers : Holds W "numbers" numbers-has.table) (in_mach
 
   has_machine_Machine_set_config : HasT (in_world W) false machine_Machine_set_config.code
   unfolding table
-  has_machine_Machine_set_config = machine_Machine_set_config-link.has (in_world W) false (in_table W "joined" table in_joined machine_Machine_set_config.symbol refl) has_machine_of_lift has_machine_of_transition has_settings_Settings_lift_transition_config has_settings_Settings_transition_config (machines-has.has_lift_LiftTransition_set_config W in_numbers in_machines) (machines-has.has_vtol_Transition_set_config W in_numbers in_machines)
+  has_machine_Machine_set_config = machine_Machine_set_config-link.has (in_world W) false (in_table W "joined" table in_joined machine_Machine_set_config.symbol refl) has_Destruct__none_drop has_joined__machine__Machine_Quadplane_FnOnce_call_once has_joined__machine__Machine_Tailsitter_FnOnce_call_once has_machine_of_either has_settings_LiftTransitionConfigFromSettings_from has_settings_TransitionConfigFromSettings_from (machines-has.has_lift_LiftTransition_set_config W in_numbers in_machines) (machines-has.has_vtol_Transition_set_config W in_numbers in_machines)
 
   pub has_joined_Joined_set : HasT (in_world W) false joined_Joined_set.code
   unfolding table
@@ -240,65 +234,53 @@ module _ (W : World) (in_numbers : Holds W "numbers" numbers-has.table) (in_mach
   unfolding table
   has_machine_Machine_decelerated = machine_Machine_decelerated-link.has (in_world W) false (in_table W "joined" table in_joined machine_Machine_decelerated.symbol refl) (machines-has.has_deceleration_BackDeceleration_pitch_rad W in_numbers in_machines)
 
-  has_answer_letter : HasT (in_world W) false answer_letter.code
-  unfolding table
-  has_answer_letter = answer_letter-link.has (in_world W) false (in_table W "joined" table in_joined answer_letter.symbol refl)
-
-  has_thrust_is_mode : HasT (in_world W) false thrust_is_mode.code
-  unfolding table
-  has_thrust_is_mode = thrust_is_mode-link.has (in_world W) false (in_table W "joined" table in_joined thrust_is_mode.symbol refl) has_answer_letter
-
   has_machine_Machine_stepped_pitch : HasT (in_world W) false machine_Machine_stepped_pitch.code
   unfolding table
-  has_machine_Machine_stepped_pitch = machine_Machine_stepped_pitch-link.has (in_world W) false (in_table W "joined" table in_joined machine_Machine_stepped_pitch.symbol refl) has_machine_Machine_decelerated has_thrust_is_mode
+  has_machine_Machine_stepped_pitch = machine_Machine_stepped_pitch-link.has (in_world W) false (in_table W "joined" table in_joined machine_Machine_stepped_pitch.symbol refl) has_machine_Machine_decelerated (machines-has.has_FlightModePartialEq_eq W in_numbers in_machines)
 
-  has_thrust_entered : HasT (in_world W) false thrust_entered.code
+  has_thrust_Modes_entered : HasT (in_world W) false thrust_Modes_entered.code
   unfolding table
-  has_thrust_entered = thrust_entered-link.has (in_world W) false (in_table W "joined" table in_joined thrust_entered.symbol refl) has_thrust_is_mode (numbers-has.has_logic_both W in_numbers)
+  has_thrust_Modes_entered = thrust_Modes_entered-link.has (in_world W) false (in_table W "joined" table in_joined thrust_Modes_entered.symbol refl) (machines-has.has_FlightModePartialEq_eq W in_numbers in_machines) (numbers-has.has_logic_both W in_numbers)
 
-  has_thrust_blend : HasT (in_world W) false thrust_blend.code
+  has_thrust_Thrusted_blend : HasT (in_world W) false thrust_Thrusted_blend.code
   unfolding table
-  has_thrust_blend = thrust_blend-link.has (in_world W) false (in_table W "joined" table in_joined thrust_blend.symbol refl) (machines-has.has_handoff_ThrustHandoff_apply W in_numbers in_machines)
+  has_thrust_Thrusted_blend = thrust_Thrusted_blend-link.has (in_world W) false (in_table W "joined" table in_joined thrust_Thrusted_blend.symbol refl) (machines-has.has_handoff_ThrustHandoff_apply W in_numbers in_machines)
 
   has_thrust_run_up : HasT (in_world W) false thrust_run_up.code
   unfolding table
   has_thrust_run_up = thrust_run_up-link.has (in_world W) false (in_table W "joined" table in_joined thrust_run_up.symbol refl) (numbers-has.has_math_min W in_numbers)
 
-  has_thrust_quadplane_thrust : HasT (in_world W) false thrust_quadplane_thrust.code
+  has_thrust_Thrusted_quadplane_thrust : HasT (in_world W) false thrust_Thrusted_quadplane_thrust.code
   unfolding table
-  has_thrust_quadplane_thrust = thrust_quadplane_thrust-link.has (in_world W) false (in_table W "joined" table in_joined thrust_quadplane_thrust.symbol refl) has_thrust_blend has_thrust_is_mode has_thrust_run_up
+  has_thrust_Thrusted_quadplane_thrust = thrust_Thrusted_quadplane_thrust-link.has (in_world W) false (in_table W "joined" table in_joined thrust_Thrusted_quadplane_thrust.symbol refl) has_thrust_Thrusted_blend has_thrust_run_up (machines-has.has_FlightModePartialEq_eq W in_numbers in_machines)
 
   has_thrust_back_thrust : HasT (in_world W) false thrust_back_thrust.code
   unfolding table
   has_thrust_back_thrust = thrust_back_thrust-link.has (in_world W) false (in_table W "joined" table in_joined thrust_back_thrust.symbol refl) (machines-has.has_sink_guard_sink W in_numbers in_machines)
 
-  has_thrust_tailsitter_thrust : HasT (in_world W) false thrust_tailsitter_thrust.code
+  has_thrust_Thrusted_tailsitter_thrust : HasT (in_world W) false thrust_Thrusted_tailsitter_thrust.code
   unfolding table
-  has_thrust_tailsitter_thrust = thrust_tailsitter_thrust-link.has (in_world W) false (in_table W "joined" table in_joined thrust_tailsitter_thrust.symbol refl) has_thrust_back_thrust has_thrust_blend
+  has_thrust_Thrusted_tailsitter_thrust = thrust_Thrusted_tailsitter_thrust-link.has (in_world W) false (in_table W "joined" table in_joined thrust_Thrusted_tailsitter_thrust.symbol refl) has_thrust_Thrusted_blend has_thrust_back_thrust
 
   has_machine_Machine_thrust : HasT (in_world W) false machine_Machine_thrust.code
   unfolding table
-  has_machine_Machine_thrust = machine_Machine_thrust-link.has (in_world W) false (in_table W "joined" table in_joined machine_Machine_thrust.symbol refl) has_thrust_entered has_thrust_quadplane_thrust has_thrust_tailsitter_thrust
+  has_machine_Machine_thrust = machine_Machine_thrust-link.has (in_world W) false (in_table W "joined" table in_joined machine_Machine_thrust.symbol refl) has_thrust_Modes_entered has_thrust_Thrusted_quadplane_thrust has_thrust_Thrusted_tailsitter_thrust
 
-  has_thrust_entry_pitch : HasT (in_world W) false thrust_entry_pitch.code
+  has_thrust_Modes_entry_pitch : HasT (in_world W) false thrust_Modes_entry_pitch.code
   unfolding table
-  has_thrust_entry_pitch = thrust_entry_pitch-link.has (in_world W) false (in_table W "joined" table in_joined thrust_entry_pitch.symbol refl) has_thrust_entered (machines-has.has_deceleration_BackDeceleration_new W in_numbers in_machines)
+  has_thrust_Modes_entry_pitch = thrust_Modes_entry_pitch-link.has (in_world W) false (in_table W "joined" table in_joined thrust_Modes_entry_pitch.symbol refl) has_thrust_Modes_entered (machines-has.has_deceleration_BackDeceleration_new W in_numbers in_machines)
 
-  has_thrust_starts_handoff : HasT (in_world W) false thrust_starts_handoff.code
+  has_thrust_Modes_starts_handoff : HasT (in_world W) false thrust_Modes_starts_handoff.code
   unfolding table
-  has_thrust_starts_handoff = thrust_starts_handoff-link.has (in_world W) false (in_table W "joined" table in_joined thrust_starts_handoff.symbol refl) has_thrust_entered (numbers-has.has_logic_either W in_numbers)
+  has_thrust_Modes_starts_handoff = thrust_Modes_starts_handoff-link.has (in_world W) false (in_table W "joined" table in_joined thrust_Modes_starts_handoff.symbol refl) has_thrust_Modes_entered (numbers-has.has_logic_either W in_numbers)
 
   has_joined_Joined_stepped : HasT (in_world W) false joined_Joined_stepped.code
   unfolding table
-  has_joined_Joined_stepped = joined_Joined_stepped-link.has (in_world W) false (in_table W "joined" table in_joined joined_Joined_stepped.symbol refl) has_joined_Joined_handoff_if has_machine_Machine_mode has_machine_Machine_stepped_pitch has_machine_Machine_thrust has_thrust_entry_pitch has_thrust_starts_handoff
+  has_joined_Joined_stepped = joined_Joined_stepped-link.has (in_world W) false (in_table W "joined" table in_joined joined_Joined_stepped.symbol refl) has_joined_Joined_handoff_if has_machine_Machine_mode has_machine_Machine_stepped_pitch has_machine_Machine_thrust has_thrust_Modes_entry_pitch has_thrust_Modes_starts_handoff
 
   has_joined_Joined_stepped_by : HasT (in_world W) false joined_Joined_stepped_by.code
   unfolding table
-  has_joined_Joined_stepped_by = joined_Joined_stepped_by-link.has (in_world W) false (in_table W "joined" table in_joined joined_Joined_stepped_by.symbol refl) has_joined_Joined_answered has_joined_Joined_refused has_joined_Joined_stepped
-
-  has_machine_Machine_update : HasT (in_world W) false machine_Machine_update.code
-  unfolding table
-  has_machine_Machine_update = machine_Machine_update-link.has (in_world W) false (in_table W "joined" table in_joined machine_Machine_update.symbol refl) has_machine_of_lift has_machine_of_transition (machines-has.has_lift_LiftTransition_update W in_numbers in_machines) (machines-has.has_vtol_Transition_update W in_numbers in_machines)
+  has_joined_Joined_stepped_by = joined_Joined_stepped_by-link.has (in_world W) false (in_table W "joined" table in_joined joined_Joined_stepped_by.symbol refl) has_joined_Joined_answered has_joined_Joined_stepped (machines-has.has_answer_Update_refused W in_numbers in_machines)
 
   has_machine_Machine_roll_limit_rad : HasT (in_world W) false machine_Machine_roll_limit_rad.code
   unfolding table
@@ -316,13 +298,17 @@ module _ (W : World) (in_numbers : Holds W "numbers" numbers-has.table) (in_mach
   unfolding table
   has_machine_Machine_past_roll_limit = machine_Machine_past_roll_limit-link.has (in_world W) false (in_table W "joined" table in_joined machine_Machine_past_roll_limit.symbol refl) has_machine_Machine_mode has_machine_Machine_roll_limit_rad has_machine_abs has_machine_is_transition (numbers-has.has_logic_both W in_numbers)
 
-  has_machine_MachineUpdate_cut_or : HasT (in_world W) false machine_MachineUpdate_cut_or.code
+  has_machine_Machine_cut_or : HasT (in_world W) false machine_Machine_cut_or.code
   unfolding table
-  has_machine_MachineUpdate_cut_or = machine_MachineUpdate_cut_or-link.has (in_world W) false (in_table W "joined" table in_joined machine_MachineUpdate_cut_or.symbol refl) has_machine_Machine_cut_short has_machine_Machine_past_roll_limit
+  has_machine_Machine_cut_or = machine_Machine_cut_or-link.has (in_world W) false (in_table W "joined" table in_joined machine_Machine_cut_or.symbol refl) has_machine_Machine_cut_short has_machine_Machine_past_roll_limit
+
+  has_machine_Machine_update : HasT (in_world W) false machine_Machine_update.code
+  unfolding table
+  has_machine_Machine_update = machine_Machine_update-link.has (in_world W) false (in_table W "joined" table in_joined machine_Machine_update.symbol refl) has_Destruct__none_drop has_joined__machine__Machine_Quadplane_FnOnce_call_once has_joined__machine__Machine_Tailsitter_FnOnce_call_once has_machine_of_either (machines-has.has_lift_LiftTransition_update W in_numbers in_machines) (machines-has.has_vtol_Transition_update W in_numbers in_machines)
 
   pub has_joined_Joined_step : HasT (in_world W) false joined_Joined_step.code
   unfolding table
-  has_joined_Joined_step = joined_Joined_step-link.has (in_world W) false (in_table W "joined" table in_joined joined_Joined_step.symbol refl) has_joined_Joined_refused has_joined_Joined_stepped_by has_machine_Machine_update has_machine_MachineUpdate_cut_or (numbers-has.has_ranges_is_positive W in_numbers)
+  has_joined_Joined_step = joined_Joined_step-link.has (in_world W) false (in_table W "joined" table in_joined joined_Joined_step.symbol refl) has_joined_Joined_stepped_by has_machine_Machine_cut_or has_machine_Machine_update (machines-has.has_answer_Update_refused W in_numbers in_machines) (numbers-has.has_ranges_is_positive W in_numbers)
 
   pub has_joined_Joined_call : HasT (in_world W) false joined_Joined_call.code
   unfolding table

@@ -1,6 +1,7 @@
 -- The ways in which a call moves the joined machine between the modes, whatever the airframe: the edges of section 4's graph, each with what becomes of the gate, the clock and the
 -- ramp. They are the rows of section 4, taken apart by mode, request and what the airframe finds. Assumes nothing.
-use Rattle.std.specs.Prelude.{if◌then◌else◌}
+use Rattle.std.proofs.lemmas.Float.{T_from_false}
+use Rattle.std.specs.Prelude.{if◌then◌else◌, Option, Some, None}
 use mathlib.Core.Path.{◌≡◌, refl, sym, ap, ◌∙◌, subst}
 use mathlib.Core.Bool.{Bool, true, false, not, ◌&&◌}
 use lib.Dec.{T}
@@ -13,11 +14,7 @@ use Rattle.machines.specs.declared.FlightRegime.{FlightRegime}
 use Rattle.machines.specs.declared.FlightRegime.TheVariants as regime
 use Rattle.machines.specs.declared.ModeRefusal.{ModeRefusal}
 use Rattle.machines.specs.declared.ModeRefusal.TheVariants.{TransitionTimeout, BelowPlaneMinAltitude}
-use Rattle.machines.specs.declared.MaybeRefusal.{MaybeRefusal}
-use Rattle.machines.specs.declared.MaybeRefusal.TheVariants as refusal
 use Rattle.machines.specs.declared.gate.ForwardGate.{ForwardGate}
-use Rattle.machines.specs.declared.lift.RampStart.{RampStart}
-use Rattle.machines.specs.declared.lift.RampStart.TheVariants.{Waiting}
 use Rattle.machines.specs.declared.rows.TransitionState.{TransitionState}
 use Rattle.machines.specs.declared.rows.Moved.{Moved}
 use Rattle.machines.specs.Gate.{primed_gate, height_of, high_enough, forward_refusal, forward_refusal_of, floor_trips}
@@ -38,7 +35,7 @@ use Rattle.joined.proofs.Laws.Effects.{ramp_start_in, found_in, moved_in, Effect
 abbrev pub gate_at : Joined → ForwardGate
 gate_at j = (state_in j.machine).gate
 
-abbrev pub ramp_at : Joined → RampStart
+abbrev pub ramp_at : Joined → Option Float
 ramp_at j = ramp_start_in j.machine
 
 -- ---- the edges, each with what is known of the call, of the state j that it finds and of the state k that it leaves
@@ -57,7 +54,7 @@ module _ (j k : Joined) (c : Call) where
     pub request : T (copter_request_in_copter j c)
     pub no_prime : T (not (is_prime j c))
     pub to : mode_at k ≡ mode.Copter
-    pub gate : gate_at k ≡ abandoning (gate_at j) refusal.None
+    pub gate : gate_at k ≡ abandoning (gate_at j) None
 
   -- the timeout, or a cut
   pub record AbandonsToPlane : Type 0 where
@@ -65,14 +62,14 @@ module _ (j k : Joined) (c : Call) where
     pub no_prime : T (not (is_prime j c))
     pub from : mode_at j ≡ mode.ToPlane
     pub to : mode_at k ≡ mode.Copter
-    pub gate : gate_at k ≡ abandoning (gate_at j) (refusal.Some why)
+    pub gate : gate_at k ≡ abandoning (gate_at j) (Some why)
 
   -- a Plane request in ToCopter, with no abandonment
   pub record ResumesPlane : Type 0 where
     pub no_prime : T (not (is_prime j c))
     pub from : mode_at j ≡ mode.ToCopter
     pub to : mode_at k ≡ mode.Plane
-    pub free : (gate_at j).abandoned ≡ refusal.None
+    pub free : (gate_at j).abandoned ≡ None
     pub gate : gate_at k ≡ gate_at j
 
   -- a Copter request in ToPlane, the end of ToCopter, or a cut in it
@@ -92,11 +89,11 @@ module _ (j k : Joined) (i : StepInput) where
   pub record EntersToPlane : Type 0 where
     pub from : mode_at j ≡ mode.Copter
     pub to : mode_at k ≡ mode.ToPlane
-    pub free : (gate_at j).abandoned ≡ refusal.None
+    pub free : (gate_at j).abandoned ≡ None
     pub high : high_enough (height_of (gate_at j) i.state.z_m) (min_height_of j.machine) (plane_min_height_of j.machine) ≡ true
     pub gate : gate_at k ≡ gate_at j
     pub clock : clock_at k ≡ zero32
-    pub ramp : ramp_at k ≡ Waiting
+    pub ramp : ramp_at k ≡ None
 
   -- neither completed nor timed out: the ramp may begin
   pub record StaysToPlane : Type 0 where
@@ -142,21 +139,18 @@ pub data Edge (j k : Joined) : Call → Type 0 where
   completes_to_plane : {i : StepInput} → CompletesToPlane j k i → Edge j k (call.Step i)
   abandons_to_plane : {c : Call} → AbandonsToPlane j k c → Edge j k c
   enters_to_copter : {i : StepInput} → EntersToCopter j k (gate_at j) → Edge j k (call.Step i)
-  floor_tripped : {i : StepInput} → EntersToCopter j k (abandoning (gate_at j) (refusal.Some BelowPlaneMinAltitude)) → Edge j k (call.Step i)
+  floor_tripped : {i : StepInput} → EntersToCopter j k (abandoning (gate_at j) (Some BelowPlaneMinAltitude)) → Edge j k (call.Step i)
   stays_to_copter : {i : StepInput} → StaysToCopter j k i → Edge j k (call.Step i)
   resumes_plane : {c : Call} → ResumesPlane j k c → Edge j k c
   ends_in_copter : {c : Call} → EndsInCopter j k c → Edge j k c
 
 -- ---- tests that failed
-pub failed : {b : Bool} → b ≡ false → T (not b)
-failed e = subst (λ (b : Bool). T (not b)) (sym e) tt
-
 pub not_and_left : (a b : Bool) → T (not a) → T (not (a && b))
 not_and_left true b h = absurd h
 not_and_left false b h = tt
 
 pub not_and_right : (a b : Bool) → b ≡ false → T (not (a && b))
-not_and_right true b e = failed e
+not_and_right true b e = T_from_false _ e
 not_and_right false b e = tt
 
 -- ---- a machine after a row, whatever the airframe
@@ -170,10 +164,10 @@ after_row (machine.Tailsitter m) i = record { state = refl; airframe = refl; set
 after_row (machine.Quadplane m) i = record { state = refl; airframe = refl; settings = refl }
 
 -- the ramp after a row
-abbrev ramp_after : Moved → RampStart → Bool → RampStart
-ramp_after moved ramp fast = if moved.entered then Waiting else quadplane.ramp_in moved.state.mode ramp fast moved.state.elapsed_s
+abbrev ramp_after : Moved → Option Float → Bool → Option Float
+ramp_after moved ramp fast = if moved.entered then None else quadplane.ramp_in moved.state.mode ramp fast moved.state.elapsed_s
 
-pub no_ramp : (entered : Bool) (to : FlightMode) (clock : Float) → Waiting ≡ (if entered then Waiting else quadplane.ramp_in to Waiting false clock)
+pub no_ramp : (entered : Bool) (to : FlightMode) (clock : Float) → None ≡ (if entered then None else quadplane.ramp_in to None false clock)
 no_ramp true to clock = refl
 no_ramp false mode.Copter clock = refl
 no_ramp false mode.Plane clock = refl
@@ -197,10 +191,10 @@ heights (machine.Tailsitter m) i = record { z = refl; minimum = refl; plane_mini
 heights (machine.Quadplane m) i = record { z = refl; minimum = refl; plane_minimum = refl }
 
 -- ---- the gate lets the machine go: no abandonment, and high enough
-free : (a : MaybeRefusal) (high : Bool) → forward_refusal a high ≡ refusal.None → (a ≡ refusal.None) × (high ≡ true)
-free refusal.None true e = (refl, refl)
-free refusal.None false e = (refl, cc)
-free (refusal.Some why) high e = (cc, cc)
+free : (a : Option ModeRefusal) (high : Bool) → forward_refusal a high ≡ None → (a ≡ None) × (high ≡ true)
+free None true e = (refl, refl)
+free None false e = (refl, cc)
+free (Some why) high e = (cc, cc)
 
 -- ---- a row
 module _ (j : Joined) (i : StepInput) (k : Joined) (taken : T (is_accepted_step j (call.Step i))) (moved : k.machine ≡ (moving j.machine i).machine) where
@@ -245,7 +239,7 @@ module _ (j : Joined) (i : StepInput) (k : Joined) (taken : T (is_accepted_step 
   begun_clock at em = ap (λ (m : FlightMode). clock_after m (clock_at j) i.dt) em
 
   -- a row that goes on in Copter or Plane, with report why
-  stands : (why : MaybeRefusal) → Row (rows.plain (reporting begun why)) → (at : FlightMode) → mode_at j ≡ at → transitioning at ≡ false → Edge j k c
+  stands : (why : Option ModeRefusal) → Row (rows.plain (reporting begun why)) → (at : FlightMode) → mode_at j ≡ at → transitioning at ≡ false → Edge j k c
   stands why e at em idle =
       let l = leaves (rows.plain (reporting begun why)) e in
       stays (record {
@@ -278,14 +272,14 @@ module _ (j : Joined) (i : StepInput) (k : Joined) (taken : T (is_accepted_step 
       })
   from_copter regime.Plane er em = by refused refl
     where
-      refused : MaybeRefusal
+      refused : Option ModeRefusal
       refused = forward_refusal_of (gate_at j) found.z found.min_height found.plane_min_height
 
-      by : (a : MaybeRefusal) → refused ≡ a → Edge j k c
-      by (refusal.Some why) ea =
-          stands (refusal.Some why) (row mode.Copter regime.Plane em er ∙ ap (λ (a : MaybeRefusal). enter_unless a (reporting begun a)) ea) mode.Copter em refl
-      by refusal.None ea =
-          let l = leaves _ (row mode.Copter regime.Plane em er ∙ ap (λ (a : MaybeRefusal). enter_unless a (reporting begun a)) ea) in
+      by : (a : Option ModeRefusal) → refused ≡ a → Edge j k c
+      by (Some why) ea =
+          stands (Some why) (row mode.Copter regime.Plane em er ∙ ap (λ (a : Option ModeRefusal). enter_unless a (reporting begun a)) ea) mode.Copter em refl
+      by None ea =
+          let l = leaves _ (row mode.Copter regime.Plane em er ∙ ap (λ (a : Option ModeRefusal). enter_unless a (reporting begun a)) ea) in
           let f = free (gate_at j).abandoned (high_enough (height_of (gate_at j) found.z) found.min_height found.plane_min_height) ea in
           let h = heights j.machine i in
           enters_to_plane (record {
@@ -340,10 +334,10 @@ module _ (j : Joined) (i : StepInput) (k : Joined) (taken : T (is_accepted_step 
       by true eb =
           let l = leaves _ (row mode.Plane regime.Plane em er ∙ ap (plane_row regime.Plane begun) eb) in
           floor_tripped (record { from = em; to = l.to; gate = l.gate; clock = l.clock })
-      by false eb = stands refusal.None (row mode.Plane regime.Plane em er ∙ ap (plane_row regime.Plane begun) eb) mode.Plane em refl
+      by false eb = stands None (row mode.Plane regime.Plane em er ∙ ap (plane_row regime.Plane begun) eb) mode.Plane em refl
 
   -- the end of a back transition, with report why
-  ending : (why : MaybeRefusal) → Row (finish (reporting begun why) found.ended) → mode_at j ≡ mode.ToCopter → Edge j k c
+  ending : (why : Option ModeRefusal) → Row (finish (reporting begun why) found.ended) → mode_at j ≡ mode.ToCopter → Edge j k c
   ending why row em = by found.ended refl
     where
       by : (b : Bool) → found.ended ≡ b → Edge j k c
@@ -354,15 +348,15 @@ module _ (j : Joined) (i : StepInput) (k : Joined) (taken : T (is_accepted_step 
           (record { taken = taken; from = em; to = l.to ∙ em; ended = eb; gate = l.gate; clock = l.clock ∙ begun_clock mode.ToCopter em; settings = same })
 
   from_to_copter : (asked : FlightRegime) → i.requested ≡ asked → mode_at j ≡ mode.ToCopter → Edge j k c
-  from_to_copter regime.Copter er em = ending refusal.None (row mode.ToCopter regime.Copter em er) em
+  from_to_copter regime.Copter er em = ending None (row mode.ToCopter regime.Copter em er) em
   from_to_copter regime.Plane er em = by (gate_at j).abandoned refl
     where
-      row_by : (a : MaybeRefusal) → (gate_at j).abandoned ≡ a → Row (resume_unless a (reporting begun (gate_at j).abandoned) found.ended)
-      row_by a ea = row mode.ToCopter regime.Plane em er ∙ ap (λ (a : MaybeRefusal). resume_unless a (reporting begun (gate_at j).abandoned) found.ended) ea
+      row_by : (a : Option ModeRefusal) → (gate_at j).abandoned ≡ a → Row (resume_unless a (reporting begun (gate_at j).abandoned) found.ended)
+      row_by a ea = row mode.ToCopter regime.Plane em er ∙ ap (λ (a : Option ModeRefusal). resume_unless a (reporting begun (gate_at j).abandoned) found.ended) ea
 
-      by : (a : MaybeRefusal) → (gate_at j).abandoned ≡ a → Edge j k c
-      by refusal.None ea = let l = leaves _ (row_by refusal.None ea) in resumes_plane (record { no_prime = tt; from = em; to = l.to; free = ea; gate = l.gate })
-      by (refusal.Some why) ea = ending (gate_at j).abandoned (row_by (refusal.Some why) ea) em
+      by : (a : Option ModeRefusal) → (gate_at j).abandoned ≡ a → Edge j k c
+      by None ea = let l = leaves _ (row_by None ea) in resumes_plane (record { no_prime = tt; from = em; to = l.to; free = ea; gate = l.gate })
+      by (Some why) ea = ending (gate_at j).abandoned (row_by (Some why) ea) em
 
   by_row : (at : FlightMode) → mode_at j ≡ at → Edge j k c
   by_row mode.Copter em = from_copter i.requested refl em
@@ -417,8 +411,8 @@ by_effect j c k (primes z e s a) =
 by_effect j c k (cuts why by p to) = by_cut j c k why p to (mode_at j) refl
 by_effect j c k (moves i e taken p to) = subst (λ (x : Call). Edge j k x) (sym e) (by_row j i k taken to (mode_at j) refl)
 
-pub edge : (j : Joined) (c : Call) → Edge j (call_of j c).joined c
-edge j c = by_effect j c (call_of j c).joined (effect j c)
+pub edge : (j : Joined) (c : Call) → Edge j (call_of j c).state c
+edge j c = by_effect j c (call_of j c).state (effect j c)
 
 same_airframe : (j : Joined) (c : Call) (k : Joined) → Effect j c k → airframe_of k.machine ≡ airframe_of j.machine
 same_airframe j c k (refuses n p e) = ap (λ (x : Joined). airframe_of x.machine) e
@@ -427,5 +421,5 @@ same_airframe j c k (primes z e s a) = a
 same_airframe j c k (cuts why by p to) = ap airframe_of to ∙ (after_cut_lem j.machine why).airframe
 same_airframe j c k (moves i e taken p to) = ap airframe_of to ∙ (after_row j.machine i).airframe
 
-pub airframe_kept : (j : Joined) (c : Call) → airframe_of (call_of j c).joined.machine ≡ airframe_of j.machine
-airframe_kept j c = same_airframe j c (call_of j c).joined (effect j c)
+pub airframe_kept : (j : Joined) (c : Call) → airframe_of (call_of j c).state.machine ≡ airframe_of j.machine
+airframe_kept j c = same_airframe j c (call_of j c).state (effect j c)

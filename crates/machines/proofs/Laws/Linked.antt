@@ -3,14 +3,18 @@ use mathlib.Core.Path.{refl}
 use mathlib.Core.Bool.{false}
 use prog.Linked.{Tree, leaf, fork, World, in_world, Holds, in_table}
 use prog.LinkedThreads.{HasT}
-use Rattle.machines.proofs.AirspeedReading.at_least_or.Symbol as AirspeedReading_at_least_or
-use Rattle.machines.proofs.AirspeedReading.at_least_or.TheLink as AirspeedReading_at_least_or-link
 use Rattle.machines.proofs.FlightMode.after_abandon.Symbol as FlightMode_after_abandon
 use Rattle.machines.proofs.FlightMode.after_abandon.TheLink as FlightMode_after_abandon-link
 use Rattle.machines.proofs.FlightMode.clock_after.Symbol as FlightMode_clock_after
 use Rattle.machines.proofs.FlightMode.clock_after.TheLink as FlightMode_clock_after-link
+use Rattle.machines.proofs.FlightModePartialEq.eq.Symbol as FlightModePartialEq_eq
+use Rattle.machines.proofs.FlightModePartialEq.eq.TheLink as FlightModePartialEq_eq-link
 use Rattle.machines.proofs.VehicleState.valid_airspeed_mps.Symbol as VehicleState_valid_airspeed_mps
 use Rattle.machines.proofs.VehicleState.valid_airspeed_mps.TheLink as VehicleState_valid_airspeed_mps-link
+use Rattle.machines.proofs.answer.Update.refused.Symbol as answer_Update_refused
+use Rattle.machines.proofs.answer.Update.refused.TheLink as answer_Update_refused-link
+use Rattle.machines.proofs.at_least_or.Symbol as at_least_or
+use Rattle.machines.proofs.at_least_or.TheLink as at_least_or-link
 use Rattle.machines.proofs.deceleration.BackDeceleration.new.Symbol as deceleration_BackDeceleration_new
 use Rattle.machines.proofs.deceleration.BackDeceleration.new.TheLink as deceleration_BackDeceleration_new-link
 use Rattle.machines.proofs.deceleration.BackDeceleration.next_pitch_rad.Symbol as deceleration_BackDeceleration_next_pitch_rad
@@ -37,8 +41,12 @@ use Rattle.machines.proofs.handoff.ThrustHandoff.start.Symbol as handoff_ThrustH
 use Rattle.machines.proofs.handoff.ThrustHandoff.start.TheLink as handoff_ThrustHandoff_start-link
 use Rattle.machines.proofs.lift.LiftTransition.answered.Symbol as lift_LiftTransition_answered
 use Rattle.machines.proofs.lift.LiftTransition.answered.TheLink as lift_LiftTransition_answered-link
+use Rattle.machines.proofs.lift.LiftTransition.back_share.Symbol as lift_LiftTransition_back_share
+use Rattle.machines.proofs.lift.LiftTransition.back_share.TheLink as lift_LiftTransition_back_share-link
 use Rattle.machines.proofs.lift.LiftTransition.cut_short.Symbol as lift_LiftTransition_cut_short
 use Rattle.machines.proofs.lift.LiftTransition.cut_short.TheLink as lift_LiftTransition_cut_short-link
+use Rattle.machines.proofs.lift.LiftTransition.forward_share.Symbol as lift_LiftTransition_forward_share
+use Rattle.machines.proofs.lift.LiftTransition.forward_share.TheLink as lift_LiftTransition_forward_share-link
 use Rattle.machines.proofs.lift.LiftTransition.lift_share.Symbol as lift_LiftTransition_lift_share
 use Rattle.machines.proofs.lift.LiftTransition.lift_share.TheLink as lift_LiftTransition_lift_share-link
 use Rattle.machines.proofs.lift.LiftTransition.moved.Symbol as lift_LiftTransition_moved
@@ -49,24 +57,16 @@ use Rattle.machines.proofs.lift.LiftTransition.prime.Symbol as lift_LiftTransiti
 use Rattle.machines.proofs.lift.LiftTransition.prime.TheLink as lift_LiftTransition_prime-link
 use Rattle.machines.proofs.lift.LiftTransition.ramp.Symbol as lift_LiftTransition_ramp
 use Rattle.machines.proofs.lift.LiftTransition.ramp.TheLink as lift_LiftTransition_ramp-link
-use Rattle.machines.proofs.lift.LiftTransition.refused.Symbol as lift_LiftTransition_refused
-use Rattle.machines.proofs.lift.LiftTransition.refused.TheLink as lift_LiftTransition_refused-link
+use Rattle.machines.proofs.lift.LiftTransition.ramp_done.Symbol as lift_LiftTransition_ramp_done
+use Rattle.machines.proofs.lift.LiftTransition.ramp_done.TheLink as lift_LiftTransition_ramp_done-link
+use Rattle.machines.proofs.lift.LiftTransition.ramp_timed_out.Symbol as lift_LiftTransition_ramp_timed_out
+use Rattle.machines.proofs.lift.LiftTransition.ramp_timed_out.TheLink as lift_LiftTransition_ramp_timed_out-link
 use Rattle.machines.proofs.lift.LiftTransition.set_config.Symbol as lift_LiftTransition_set_config
 use Rattle.machines.proofs.lift.LiftTransition.set_config.TheLink as lift_LiftTransition_set_config-link
 use Rattle.machines.proofs.lift.LiftTransition.slowed.Symbol as lift_LiftTransition_slowed
 use Rattle.machines.proofs.lift.LiftTransition.slowed.TheLink as lift_LiftTransition_slowed-link
 use Rattle.machines.proofs.lift.LiftTransition.update.Symbol as lift_LiftTransition_update
 use Rattle.machines.proofs.lift.LiftTransition.update.TheLink as lift_LiftTransition_update-link
-use Rattle.machines.proofs.lift.RampStart.after.Symbol as lift_RampStart_after
-use Rattle.machines.proofs.lift.RampStart.after.TheLink as lift_RampStart_after-link
-use Rattle.machines.proofs.lift.RampStart.done.Symbol as lift_RampStart_done
-use Rattle.machines.proofs.lift.RampStart.done.TheLink as lift_RampStart_done-link
-use Rattle.machines.proofs.lift.RampStart.share.Symbol as lift_RampStart_share
-use Rattle.machines.proofs.lift.RampStart.share.TheLink as lift_RampStart_share-link
-use Rattle.machines.proofs.lift.RampStart.timed_out.Symbol as lift_RampStart_timed_out
-use Rattle.machines.proofs.lift.RampStart.timed_out.TheLink as lift_RampStart_timed_out-link
-use Rattle.machines.proofs.lift.back_share.Symbol as lift_back_share
-use Rattle.machines.proofs.lift.back_share.TheLink as lift_back_share-link
 use Rattle.machines.proofs.ranges.Range.contains.Symbol as ranges_Range_contains
 use Rattle.machines.proofs.ranges.Range.contains.TheLink as ranges_Range_contains-link
 use Rattle.machines.proofs.ranges.is_under.Symbol as ranges_is_under
@@ -75,8 +75,6 @@ use Rattle.machines.proofs.ranges.validate_ranges.Symbol as ranges_validate_rang
 use Rattle.machines.proofs.ranges.validate_ranges.TheLink as ranges_validate_ranges-link
 use Rattle.machines.proofs.rows.TransitionState.abandon.Symbol as rows_TransitionState_abandon
 use Rattle.machines.proofs.rows.TransitionState.abandon.TheLink as rows_TransitionState_abandon-link
-use Rattle.machines.proofs.rows.TransitionState.answer.Symbol as rows_TransitionState_answer
-use Rattle.machines.proofs.rows.TransitionState.answer.TheLink as rows_TransitionState_answer-link
 use Rattle.machines.proofs.rows.TransitionState.begin.Symbol as rows_TransitionState_begin
 use Rattle.machines.proofs.rows.TransitionState.begin.TheLink as rows_TransitionState_begin-link
 use Rattle.machines.proofs.rows.TransitionState.clear.Symbol as rows_TransitionState_clear
@@ -103,6 +101,8 @@ use Rattle.machines.proofs.rows.TransitionState.primed.Symbol as rows_Transition
 use Rattle.machines.proofs.rows.TransitionState.primed.TheLink as rows_TransitionState_primed-link
 use Rattle.machines.proofs.rows.TransitionState.stay.Symbol as rows_TransitionState_stay
 use Rattle.machines.proofs.rows.TransitionState.stay.TheLink as rows_TransitionState_stay-link
+use Rattle.machines.proofs.rows.TransitionState.step.Symbol as rows_TransitionState_step
+use Rattle.machines.proofs.rows.TransitionState.step.TheLink as rows_TransitionState_step-link
 use Rattle.machines.proofs.rows.TransitionState.to_mode.Symbol as rows_TransitionState_to_mode
 use Rattle.machines.proofs.rows.TransitionState.to_mode.TheLink as rows_TransitionState_to_mode-link
 use Rattle.machines.proofs.settings.LiftTransitionConfig.validate.Symbol as settings_LiftTransitionConfig_validate
@@ -123,8 +123,6 @@ use Rattle.machines.proofs.vtol.Transition.new.Symbol as vtol_Transition_new
 use Rattle.machines.proofs.vtol.Transition.new.TheLink as vtol_Transition_new-link
 use Rattle.machines.proofs.vtol.Transition.prime.Symbol as vtol_Transition_prime
 use Rattle.machines.proofs.vtol.Transition.prime.TheLink as vtol_Transition_prime-link
-use Rattle.machines.proofs.vtol.Transition.refused.Symbol as vtol_Transition_refused
-use Rattle.machines.proofs.vtol.Transition.refused.TheLink as vtol_Transition_refused-link
 use Rattle.machines.proofs.vtol.Transition.set_config.Symbol as vtol_Transition_set_config
 use Rattle.machines.proofs.vtol.Transition.set_config.TheLink as vtol_Transition_set_config-link
 use Rattle.machines.proofs.vtol.Transition.settled.Symbol as vtol_Transition_settled
@@ -143,10 +141,12 @@ use Rattle.numbers.proofs.Laws.Linked as numbers-has
 
 pub table : Tree
 table =
-    fork leaf AirspeedReading_at_least_or.symbol AirspeedReading_at_least_or-link.entry (
     fork leaf FlightMode_after_abandon.symbol FlightMode_after_abandon-link.entry (
     fork leaf FlightMode_clock_after.symbol FlightMode_clock_after-link.entry (
+    fork leaf FlightModePartialEq_eq.symbol FlightModePartialEq_eq-link.entry (
     fork leaf VehicleState_valid_airspeed_mps.symbol VehicleState_valid_airspeed_mps-link.entry (
+    fork leaf answer_Update_refused.symbol answer_Update_refused-link.entry (
+    fork leaf at_least_or.symbol at_least_or-link.entry (
     fork leaf deceleration_BackDeceleration_new.symbol deceleration_BackDeceleration_new-link.entry (
     fork leaf deceleration_BackDeceleration_next_pitch_rad.symbol deceleration_BackDeceleration_next_pitch_rad-link.entry (
     fork leaf deceleration_BackDeceleration_pitch_rad.symbol deceleration_BackDeceleration_pitch_rad-link.entry (
@@ -160,26 +160,23 @@ table =
     fork leaf handoff_ThrustHandoff_inactive.symbol handoff_ThrustHandoff_inactive-link.entry (
     fork leaf handoff_ThrustHandoff_start.symbol handoff_ThrustHandoff_start-link.entry (
     fork leaf lift_LiftTransition_answered.symbol lift_LiftTransition_answered-link.entry (
+    fork leaf lift_LiftTransition_back_share.symbol lift_LiftTransition_back_share-link.entry (
     fork leaf lift_LiftTransition_cut_short.symbol lift_LiftTransition_cut_short-link.entry (
+    fork leaf lift_LiftTransition_forward_share.symbol lift_LiftTransition_forward_share-link.entry (
     fork leaf lift_LiftTransition_lift_share.symbol lift_LiftTransition_lift_share-link.entry (
     fork leaf lift_LiftTransition_moved.symbol lift_LiftTransition_moved-link.entry (
     fork leaf lift_LiftTransition_new.symbol lift_LiftTransition_new-link.entry (
     fork leaf lift_LiftTransition_prime.symbol lift_LiftTransition_prime-link.entry (
     fork leaf lift_LiftTransition_ramp.symbol lift_LiftTransition_ramp-link.entry (
-    fork leaf lift_LiftTransition_refused.symbol lift_LiftTransition_refused-link.entry (
+    fork leaf lift_LiftTransition_ramp_done.symbol lift_LiftTransition_ramp_done-link.entry (
+    fork leaf lift_LiftTransition_ramp_timed_out.symbol lift_LiftTransition_ramp_timed_out-link.entry (
     fork leaf lift_LiftTransition_set_config.symbol lift_LiftTransition_set_config-link.entry (
     fork leaf lift_LiftTransition_slowed.symbol lift_LiftTransition_slowed-link.entry (
     fork leaf lift_LiftTransition_update.symbol lift_LiftTransition_update-link.entry (
-    fork leaf lift_RampStart_after.symbol lift_RampStart_after-link.entry (
-    fork leaf lift_RampStart_done.symbol lift_RampStart_done-link.entry (
-    fork leaf lift_RampStart_share.symbol lift_RampStart_share-link.entry (
-    fork leaf lift_RampStart_timed_out.symbol lift_RampStart_timed_out-link.entry (
-    fork leaf lift_back_share.symbol lift_back_share-link.entry (
     fork leaf ranges_Range_contains.symbol ranges_Range_contains-link.entry (
     fork leaf ranges_is_under.symbol ranges_is_under-link.entry (
     fork leaf ranges_validate_ranges.symbol ranges_validate_ranges-link.entry (
     fork leaf rows_TransitionState_abandon.symbol rows_TransitionState_abandon-link.entry (
-    fork leaf rows_TransitionState_answer.symbol rows_TransitionState_answer-link.entry (
     fork leaf rows_TransitionState_begin.symbol rows_TransitionState_begin-link.entry (
     fork leaf rows_TransitionState_clear.symbol rows_TransitionState_clear-link.entry (
     fork leaf rows_TransitionState_cut.symbol rows_TransitionState_cut-link.entry (
@@ -193,6 +190,7 @@ table =
     fork leaf rows_TransitionState_new.symbol rows_TransitionState_new-link.entry (
     fork leaf rows_TransitionState_primed.symbol rows_TransitionState_primed-link.entry (
     fork leaf rows_TransitionState_stay.symbol rows_TransitionState_stay-link.entry (
+    fork leaf rows_TransitionState_step.symbol rows_TransitionState_step-link.entry (
     fork leaf rows_TransitionState_to_mode.symbol rows_TransitionState_to_mode-link.entry (
     fork leaf settings_LiftTransitionConfig_validate.symbol settings_LiftTransitionConfig_validate-link.entry (
     fork leaf settings_TransitionConfig_validate.symbol settings_TransitionConfig_validate-link.entry (
@@ -203,14 +201,13 @@ table =
     fork leaf vtol_Transition_moved.symbol vtol_Transition_moved-link.entry (
     fork leaf vtol_Transition_new.symbol vtol_Transition_new-link.entry (
     fork leaf vtol_Transition_prime.symbol vtol_Transition_prime-link.entry (
-    fork leaf vtol_Transition_refused.symbol vtol_Transition_refused-link.entry (
     fork leaf vtol_Transition_set_config.symbol vtol_Transition_set_config-link.entry (
     fork leaf vtol_Transition_settled.symbol vtol_Transition_settled-link.entry (
     fork leaf vtol_Transition_tilt_target_rad.symbol vtol_Transition_tilt_target_rad-link.entry (
     fork leaf vtol_Transition_update.symbol vtol_Transition_update-link.entry (
     fork leaf vtol_bad_entry_tilt.symbol vtol_bad_entry_tilt-link.entry (
     fork leaf vtol_start_tilt_rad.symbol vtol_start_tilt_rad-link.entry (
-    fork leaf vtol_unknown_tilt_rad.symbol vtol_unknown_tilt_rad-link.entry leaf)))))))))))))))))))))))))))))))))))))))))))))))))))))))))))))))))))
+    fork leaf vtol_unknown_tilt_rad.symbol vtol_unknown_tilt_rad-link.entry leaf))))))))))))))))))))))))))))))))))))))))))))))))))))))))))))))))))
 
 module _ (W : World) (in_numbers : Holds W "numbers" numbers-has.table) (in_machines : Holds W "machines" table) where
   pub has_deceleration_BackDeceleration_new : HasT (in_world W) false deceleration_BackDeceleration_new.code
@@ -261,25 +258,25 @@ module _ (W : World) (in_numbers : Holds W "numbers" numbers-has.table) (in_mach
   unfolding table
   has_handoff_ThrustHandoff_start = handoff_ThrustHandoff_start-link.has (in_world W) false (in_table W "machines" table in_machines handoff_ThrustHandoff_start.symbol refl) (numbers-has.has_math_saturate_throttle W in_numbers)
 
-  has_lift_RampStart_share : HasT (in_world W) false lift_RampStart_share.code
+  has_lift_LiftTransition_back_share : HasT (in_world W) false lift_LiftTransition_back_share.code
   unfolding table
-  has_lift_RampStart_share = lift_RampStart_share-link.has (in_world W) false (in_table W "machines" table in_machines lift_RampStart_share.symbol refl) (numbers-has.has_math_clamp W in_numbers)
+  has_lift_LiftTransition_back_share = lift_LiftTransition_back_share-link.has (in_world W) false (in_table W "machines" table in_machines lift_LiftTransition_back_share.symbol refl) (numbers-has.has_math_min W in_numbers)
 
-  has_lift_back_share : HasT (in_world W) false lift_back_share.code
+  has_lift_LiftTransition_forward_share : HasT (in_world W) false lift_LiftTransition_forward_share.code
   unfolding table
-  has_lift_back_share = lift_back_share-link.has (in_world W) false (in_table W "machines" table in_machines lift_back_share.symbol refl) (numbers-has.has_math_min W in_numbers)
+  has_lift_LiftTransition_forward_share = lift_LiftTransition_forward_share-link.has (in_world W) false (in_table W "machines" table in_machines lift_LiftTransition_forward_share.symbol refl) (numbers-has.has_math_clamp W in_numbers)
 
   has_lift_LiftTransition_lift_share : HasT (in_world W) false lift_LiftTransition_lift_share.code
   unfolding table
-  has_lift_LiftTransition_lift_share = lift_LiftTransition_lift_share-link.has (in_world W) false (in_table W "machines" table in_machines lift_LiftTransition_lift_share.symbol refl) has_lift_RampStart_share has_lift_back_share
+  has_lift_LiftTransition_lift_share = lift_LiftTransition_lift_share-link.has (in_world W) false (in_table W "machines" table in_machines lift_LiftTransition_lift_share.symbol refl) has_lift_LiftTransition_back_share has_lift_LiftTransition_forward_share
 
-  has_rows_TransitionState_answer : HasT (in_world W) false rows_TransitionState_answer.code
+  has_rows_TransitionState_step : HasT (in_world W) false rows_TransitionState_step.code
   unfolding table
-  has_rows_TransitionState_answer = rows_TransitionState_answer-link.has (in_world W) false (in_table W "machines" table in_machines rows_TransitionState_answer.symbol refl)
+  has_rows_TransitionState_step = rows_TransitionState_step-link.has (in_world W) false (in_table W "machines" table in_machines rows_TransitionState_step.symbol refl)
 
   has_lift_LiftTransition_answered : HasT (in_world W) false lift_LiftTransition_answered.code
   unfolding table
-  has_lift_LiftTransition_answered = lift_LiftTransition_answered-link.has (in_world W) false (in_table W "machines" table in_machines lift_LiftTransition_answered.symbol refl) has_lift_LiftTransition_lift_share has_rows_TransitionState_answer
+  has_lift_LiftTransition_answered = lift_LiftTransition_answered-link.has (in_world W) false (in_table W "machines" table in_machines lift_LiftTransition_answered.symbol refl) has_lift_LiftTransition_lift_share has_rows_TransitionState_step
 
   has_FlightMode_after_abandon : HasT (in_world W) false FlightMode_after_abandon.code
   unfolding table
@@ -311,11 +308,15 @@ module _ (W : World) (in_numbers : Holds W "numbers" numbers-has.table) (in_mach
 
   has_vtol_Transition_answered : HasT (in_world W) false vtol_Transition_answered.code
   unfolding table
-  has_vtol_Transition_answered = vtol_Transition_answered-link.has (in_world W) false (in_table W "machines" table in_machines vtol_Transition_answered.symbol refl) has_rows_TransitionState_answer has_vtol_Transition_tilt_target_rad
+  has_vtol_Transition_answered = vtol_Transition_answered-link.has (in_world W) false (in_table W "machines" table in_machines vtol_Transition_answered.symbol refl) has_rows_TransitionState_step has_vtol_Transition_tilt_target_rad
 
   pub has_vtol_Transition_cut_short : HasT (in_world W) false vtol_Transition_cut_short.code
   unfolding table
   has_vtol_Transition_cut_short = vtol_Transition_cut_short-link.has (in_world W) false (in_table W "machines" table in_machines vtol_Transition_cut_short.symbol refl) has_rows_TransitionState_cut has_vtol_Transition_answered
+
+  pub has_answer_Update_refused : HasT (in_world W) false answer_Update_refused.code
+  unfolding table
+  has_answer_Update_refused = answer_Update_refused-link.has (in_world W) false (in_table W "machines" table in_machines answer_Update_refused.symbol refl)
 
   pub has_lift_LiftTransition_prime : HasT (in_world W) false lift_LiftTransition_prime.code
   unfolding table
@@ -325,21 +326,13 @@ module _ (W : World) (in_numbers : Holds W "numbers" numbers-has.table) (in_mach
   unfolding table
   has_vtol_Transition_prime = vtol_Transition_prime-link.has (in_world W) false (in_table W "machines" table in_machines vtol_Transition_prime.symbol refl) has_rows_TransitionState_primed has_vtol_Transition_answered
 
-  has_lift_LiftTransition_refused : HasT (in_world W) false lift_LiftTransition_refused.code
-  unfolding table
-  has_lift_LiftTransition_refused = lift_LiftTransition_refused-link.has (in_world W) false (in_table W "machines" table in_machines lift_LiftTransition_refused.symbol refl)
-
   pub has_lift_LiftTransition_set_config : HasT (in_world W) false lift_LiftTransition_set_config.code
   unfolding table
-  has_lift_LiftTransition_set_config = lift_LiftTransition_set_config-link.has (in_world W) false (in_table W "machines" table in_machines lift_LiftTransition_set_config.symbol refl) has_lift_LiftTransition_answered has_lift_LiftTransition_refused has_settings_LiftTransitionConfig_validate
-
-  has_vtol_Transition_refused : HasT (in_world W) false vtol_Transition_refused.code
-  unfolding table
-  has_vtol_Transition_refused = vtol_Transition_refused-link.has (in_world W) false (in_table W "machines" table in_machines vtol_Transition_refused.symbol refl)
+  has_lift_LiftTransition_set_config = lift_LiftTransition_set_config-link.has (in_world W) false (in_table W "machines" table in_machines lift_LiftTransition_set_config.symbol refl) has_answer_Update_refused has_lift_LiftTransition_answered has_settings_LiftTransitionConfig_validate
 
   pub has_vtol_Transition_set_config : HasT (in_world W) false vtol_Transition_set_config.code
   unfolding table
-  has_vtol_Transition_set_config = vtol_Transition_set_config-link.has (in_world W) false (in_table W "machines" table in_machines vtol_Transition_set_config.symbol refl) has_settings_TransitionConfig_validate has_vtol_Transition_answered has_vtol_Transition_refused
+  has_vtol_Transition_set_config = vtol_Transition_set_config-link.has (in_world W) false (in_table W "machines" table in_machines vtol_Transition_set_config.symbol refl) has_answer_Update_refused has_settings_TransitionConfig_validate has_vtol_Transition_answered
 
   has_deceleration_BackDeceleration_next_pitch_rad : HasT (in_world W) false deceleration_BackDeceleration_next_pitch_rad.code
   unfolding table
@@ -351,7 +344,11 @@ module _ (W : World) (in_numbers : Holds W "numbers" numbers-has.table) (in_mach
 
   pub has_deceleration_BackDeceleration_pitch_rad : HasT (in_world W) false deceleration_BackDeceleration_pitch_rad.code
   unfolding table
-  has_deceleration_BackDeceleration_pitch_rad = deceleration_BackDeceleration_pitch_rad-link.has (in_world W) false (in_table W "machines" table in_machines deceleration_BackDeceleration_pitch_rad.symbol refl) has_deceleration_BackDeceleration_next_pitch_rad has_deceleration_ground_deceleration_mps2 (numbers-has.has_ranges_is_positive W in_numbers)
+  has_deceleration_BackDeceleration_pitch_rad = deceleration_BackDeceleration_pitch_rad-link.has (in_world W) false (in_table W "machines" table in_machines deceleration_BackDeceleration_pitch_rad.symbol refl) has_answer_Update_refused has_deceleration_BackDeceleration_next_pitch_rad has_deceleration_ground_deceleration_mps2 (numbers-has.has_ranges_is_positive W in_numbers)
+
+  pub has_FlightModePartialEq_eq : HasT (in_world W) false FlightModePartialEq_eq.code
+  unfolding table
+  has_FlightModePartialEq_eq = FlightModePartialEq_eq-link.has (in_world W) false (in_table W "machines" table in_machines FlightModePartialEq_eq.symbol refl)
 
   has_handoff_ThrustHandoff_active : HasT (in_world W) false handoff_ThrustHandoff_active.code
   unfolding table
@@ -363,11 +360,19 @@ module _ (W : World) (in_numbers : Holds W "numbers" numbers-has.table) (in_mach
 
   pub has_handoff_ThrustHandoff_apply : HasT (in_world W) false handoff_ThrustHandoff_apply.code
   unfolding table
-  has_handoff_ThrustHandoff_apply = handoff_ThrustHandoff_apply-link.has (in_world W) false (in_table W "machines" table in_machines handoff_ThrustHandoff_apply.symbol refl) has_handoff_ThrustHandoff_applied (numbers-has.has_ranges_is_positive W in_numbers)
+  has_handoff_ThrustHandoff_apply = handoff_ThrustHandoff_apply-link.has (in_world W) false (in_table W "machines" table in_machines handoff_ThrustHandoff_apply.symbol refl) has_answer_Update_refused has_handoff_ThrustHandoff_applied (numbers-has.has_ranges_is_positive W in_numbers)
 
   pub has_sink_guard_sink : HasT (in_world W) false sink_guard_sink.code
   unfolding table
   has_sink_guard_sink = sink_guard_sink-link.has (in_world W) false (in_table W "machines" table in_machines sink_guard_sink.symbol refl) (numbers-has.has_logic_both W in_numbers) (numbers-has.has_math_saturate_throttle W in_numbers)
+
+  has_lift_LiftTransition_ramp_done : HasT (in_world W) false lift_LiftTransition_ramp_done.code
+  unfolding table
+  has_lift_LiftTransition_ramp_done = lift_LiftTransition_ramp_done-link.has (in_world W) false (in_table W "machines" table in_machines lift_LiftTransition_ramp_done.symbol refl)
+
+  has_lift_LiftTransition_ramp_timed_out : HasT (in_world W) false lift_LiftTransition_ramp_timed_out.code
+  unfolding table
+  has_lift_LiftTransition_ramp_timed_out = lift_LiftTransition_ramp_timed_out-link.has (in_world W) false (in_table W "machines" table in_machines lift_LiftTransition_ramp_timed_out.symbol refl)
 
   has_VehicleState_valid_airspeed_mps : HasT (in_world W) false VehicleState_valid_airspeed_mps.code
   unfolding table
@@ -376,14 +381,6 @@ module _ (W : World) (in_numbers : Holds W "numbers" numbers-has.table) (in_mach
   has_lift_LiftTransition_slowed : HasT (in_world W) false lift_LiftTransition_slowed.code
   unfolding table
   has_lift_LiftTransition_slowed = lift_LiftTransition_slowed-link.has (in_world W) false (in_table W "machines" table in_machines lift_LiftTransition_slowed.symbol refl) has_VehicleState_valid_airspeed_mps (numbers-has.has_ranges_is_finite W in_numbers) (numbers-has.has_vector_Quaternion_forward_speed_mps W in_numbers)
-
-  has_lift_RampStart_done : HasT (in_world W) false lift_RampStart_done.code
-  unfolding table
-  has_lift_RampStart_done = lift_RampStart_done-link.has (in_world W) false (in_table W "machines" table in_machines lift_RampStart_done.symbol refl)
-
-  has_lift_RampStart_timed_out : HasT (in_world W) false lift_RampStart_timed_out.code
-  unfolding table
-  has_lift_RampStart_timed_out = lift_RampStart_timed_out-link.has (in_world W) false (in_table W "machines" table in_machines lift_RampStart_timed_out.symbol refl)
 
   has_FlightMode_clock_after : HasT (in_world W) false FlightMode_clock_after.code
   unfolding table
@@ -439,27 +436,23 @@ module _ (W : World) (in_numbers : Holds W "numbers" numbers-has.table) (in_mach
 
   has_lift_LiftTransition_moved : HasT (in_world W) false lift_LiftTransition_moved.code
   unfolding table
-  has_lift_LiftTransition_moved = lift_LiftTransition_moved-link.has (in_world W) false (in_table W "machines" table in_machines lift_LiftTransition_moved.symbol refl) has_lift_LiftTransition_slowed has_lift_RampStart_done has_lift_RampStart_timed_out has_rows_TransitionState_begin has_rows_TransitionState_from_copter has_rows_TransitionState_from_plane has_rows_TransitionState_from_to_copter has_rows_TransitionState_from_to_plane (numbers-has.has_logic_either W in_numbers)
+  has_lift_LiftTransition_moved = lift_LiftTransition_moved-link.has (in_world W) false (in_table W "machines" table in_machines lift_LiftTransition_moved.symbol refl) has_lift_LiftTransition_ramp_done has_lift_LiftTransition_ramp_timed_out has_lift_LiftTransition_slowed has_rows_TransitionState_begin has_rows_TransitionState_from_copter has_rows_TransitionState_from_plane has_rows_TransitionState_from_to_copter has_rows_TransitionState_from_to_plane (numbers-has.has_logic_either W in_numbers)
 
-  has_AirspeedReading_at_least_or : HasT (in_world W) false AirspeedReading_at_least_or.code
+  has_at_least_or : HasT (in_world W) false at_least_or.code
   unfolding table
-  has_AirspeedReading_at_least_or = AirspeedReading_at_least_or-link.has (in_world W) false (in_table W "machines" table in_machines AirspeedReading_at_least_or.symbol refl)
-
-  has_lift_RampStart_after : HasT (in_world W) false lift_RampStart_after.code
-  unfolding table
-  has_lift_RampStart_after = lift_RampStart_after-link.has (in_world W) false (in_table W "machines" table in_machines lift_RampStart_after.symbol refl)
+  has_at_least_or = at_least_or-link.has (in_world W) false (in_table W "machines" table in_machines at_least_or.symbol refl)
 
   has_lift_LiftTransition_ramp : HasT (in_world W) false lift_LiftTransition_ramp.code
   unfolding table
-  has_lift_LiftTransition_ramp = lift_LiftTransition_ramp-link.has (in_world W) false (in_table W "machines" table in_machines lift_LiftTransition_ramp.symbol refl) has_AirspeedReading_at_least_or has_VehicleState_valid_airspeed_mps has_lift_RampStart_after
+  has_lift_LiftTransition_ramp = lift_LiftTransition_ramp-link.has (in_world W) false (in_table W "machines" table in_machines lift_LiftTransition_ramp.symbol refl) has_VehicleState_valid_airspeed_mps has_at_least_or
 
   pub has_lift_LiftTransition_update : HasT (in_world W) false lift_LiftTransition_update.code
   unfolding table
-  has_lift_LiftTransition_update = lift_LiftTransition_update-link.has (in_world W) false (in_table W "machines" table in_machines lift_LiftTransition_update.symbol refl) has_lift_LiftTransition_answered has_lift_LiftTransition_moved has_lift_LiftTransition_ramp has_lift_LiftTransition_refused (numbers-has.has_ranges_is_positive W in_numbers)
+  has_lift_LiftTransition_update = lift_LiftTransition_update-link.has (in_world W) false (in_table W "machines" table in_machines lift_LiftTransition_update.symbol refl) has_answer_Update_refused has_lift_LiftTransition_answered has_lift_LiftTransition_moved has_lift_LiftTransition_ramp (numbers-has.has_ranges_is_positive W in_numbers)
 
   has_vtol_Transition_forward_done : HasT (in_world W) false vtol_Transition_forward_done.code
   unfolding table
-  has_vtol_Transition_forward_done = vtol_Transition_forward_done-link.has (in_world W) false (in_table W "machines" table in_machines vtol_Transition_forward_done.symbol refl) has_AirspeedReading_at_least_or (numbers-has.has_logic_both W in_numbers)
+  has_vtol_Transition_forward_done = vtol_Transition_forward_done-link.has (in_world W) false (in_table W "machines" table in_machines vtol_Transition_forward_done.symbol refl) has_at_least_or (numbers-has.has_logic_both W in_numbers)
 
   has_vtol_Transition_moved : HasT (in_world W) false vtol_Transition_moved.code
   unfolding table
@@ -483,4 +476,4 @@ module _ (W : World) (in_numbers : Holds W "numbers" numbers-has.table) (in_mach
 
   pub has_vtol_Transition_update : HasT (in_world W) false vtol_Transition_update.code
   unfolding table
-  has_vtol_Transition_update = vtol_Transition_update-link.has (in_world W) false (in_table W "machines" table in_machines vtol_Transition_update.symbol refl) has_vtol_Transition_moved has_vtol_Transition_refused has_vtol_Transition_settled has_vtol_bad_entry_tilt (numbers-has.has_ranges_is_positive W in_numbers) (numbers-has.has_vector_Quaternion_nose_up_cosine W in_numbers)
+  has_vtol_Transition_update = vtol_Transition_update-link.has (in_world W) false (in_table W "machines" table in_machines vtol_Transition_update.symbol refl) has_answer_Update_refused has_vtol_Transition_moved has_vtol_Transition_settled has_vtol_bad_entry_tilt (numbers-has.has_ranges_is_positive W in_numbers) (numbers-has.has_vector_Quaternion_nose_up_cosine W in_numbers)

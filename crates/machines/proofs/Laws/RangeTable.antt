@@ -1,10 +1,10 @@
 -- A row of the table lets through exactly what section 2 lets through, for every Float: the tests by the rows are section 2's own, field for field. A high end of +∞ that does not
 -- count says "finite", with NaN and both infinities outside; the other ranges are a row's two comparisons as they stand. Assumes nothing.
-use Rattle.std.specs.Prelude.{if◌then◌else◌}
-use mathlib.Core.Path.{◌≡◌, refl, ap, ◌∙◌}
+use Rattle.std.specs.Prelude.{if◌then◌else◌, Err}
+use mathlib.Core.Path.{◌≡◌, refl}
 use mathlib.Core.Bool.{Bool, true, false, not, ◌&&◌, ◌||◌}
 use mathlib.Core.List.{List, [], ◌∷◌}
-use Prim.Native.Nat.{ℕ, suc, ◌+◌, ◌<◌}
+use Prim.Native.Nat.{ℕ, ◌+◌, ◌<◌}
 use native.Mathlib.Numerals.{towards_suc}
 use lib.Dec.{T}
 use lib.ListN.{get_or, length, drop}
@@ -15,7 +15,6 @@ use Rattle.numbers.specs.Ranges.{limit, positive}
 use Rattle.numbers.proofs.Laws.Examples.{minus_zero}
 use Rattle.machines.specs.declared.InputRefusal.TheVariants.{Setting}
 use Rattle.machines.specs.declared.ranges.Range.{Range}
-use Rattle.machines.specs.declared.settings.Validity.TheVariants.{Bad}
 use Rattle.machines.specs.declared.settings.TransitionConfig.{TransitionConfig}
 use Rattle.machines.specs.declared.settings.LiftTransitionConfig.{LiftTransitionConfig}
 use Rattle.machines.specs.Settings.{verdict, transition_tests, lift_tests}
@@ -99,13 +98,8 @@ unfolding lt le of_bits
 specials = tt
 
 -- ---- the verdict on settings from field i + 1 on: that field's, if it is bad, and else the verdict on those after it
-by_field : (first i : ℕ) (xs : List Float) (d : Float) (good : Bool) → i < length xs → contains (range_at (first + i)) (get_or xs i d) ≡ good → verdict (range_tests first i (drop i xs)) ≡ (if good then verdict (range_tests first (suc i) (drop (suc i) xs)) else Bad (Setting (suc i)))
-by_field first i xs d good h e =
-    ap (λ (ys : List Float). verdict (range_tests first i ys)) (drop-cons xs i d h)
-    ∙ ap (λ (b : Bool). if b then verdict (range_tests first (suc i) (drop (suc i) xs)) else Bad (Setting (suc i))) e
-
-pub bad_field : (first i : ℕ) (xs : List Float) (d : Float) → i < length xs → contains (range_at (first + i)) (get_or xs i d) ≡ false → verdict (range_tests first i (drop i xs)) ≡ Bad (Setting (i + 1))
-bad_field first i xs d h e = simp towards_suc (by_field first i xs d false h e)
+pub bad_field : (first i : ℕ) (xs : List Float) (d : Float) → i < length xs → contains (range_at (first + i)) (get_or xs i d) ≡ false → verdict (range_tests first i (drop i xs)) ≡ Err (Setting (i + 1))
+bad_field first i xs d h e = simp (drop-cons xs i d h, e, towards_suc)
 
 pub good_field : (first i : ℕ) (xs : List Float) (d : Float) → i < length xs → contains (range_at (first + i)) (get_or xs i d) ≡ true → verdict (range_tests first i (drop i xs)) ≡ verdict (range_tests first (i + 1) (drop (i + 1) xs))
-good_field first i xs d h e = simp towards_suc (by_field first i xs d true h e)
+good_field first i xs d h e = simp (drop-cons xs i d h, e, towards_suc)

@@ -35,26 +35,26 @@ use Rattle.numbers.proofs.ranges.is_nan.Symbol as ranges_is_nan
 use Rattle.numbers.proofs.ranges.is_nan.TheLink as ranges_is_nan-link
 use Rattle.numbers.proofs.ranges.is_positive.Symbol as ranges_is_positive
 use Rattle.numbers.proofs.ranges.is_positive.TheLink as ranges_is_positive-link
+use Rattle.numbers.proofs.root.Radicand.root_digits.Symbol as root_Radicand_root_digits
+use Rattle.numbers.proofs.root.Radicand.root_digits.TheLink as root_Radicand_root_digits-link
+use Rattle.numbers.proofs.root.Radicand.rooted.Symbol as root_Radicand_rooted
+use Rattle.numbers.proofs.root.Radicand.rooted.TheLink as root_Radicand_rooted-link
+use Rattle.numbers.proofs.root.Radicand.rooted_near.Symbol as root_Radicand_rooted_near
+use Rattle.numbers.proofs.root.Radicand.rooted_near.TheLink as root_Radicand_rooted_near-link
+use Rattle.numbers.proofs.root.Radicand.scaled.Symbol as root_Radicand_scaled
+use Rattle.numbers.proofs.root.Radicand.scaled.TheLink as root_Radicand_scaled-link
 use Rattle.numbers.proofs.root.guess.Symbol as root_guess
 use Rattle.numbers.proofs.root.guess.TheLink as root_guess-link
 use Rattle.numbers.proofs.root.nearest_of_three.Symbol as root_nearest_of_three
 use Rattle.numbers.proofs.root.nearest_of_three.TheLink as root_nearest_of_three-link
 use Rattle.numbers.proofs.root.root.Symbol as root_root
 use Rattle.numbers.proofs.root.root.TheLink as root_root-link
-use Rattle.numbers.proofs.root.root_bits.Symbol as root_root_bits
-use Rattle.numbers.proofs.root.root_bits.TheLink as root_root_bits-link
-use Rattle.numbers.proofs.root.root_digits.Symbol as root_root_digits
-use Rattle.numbers.proofs.root.root_digits.TheLink as root_root_digits-link
+use Rattle.numbers.proofs.root.root_from_bits.Symbol as root_root_from_bits
+use Rattle.numbers.proofs.root.root_from_bits.TheLink as root_root_from_bits-link
 use Rattle.numbers.proofs.root.root_positive.Symbol as root_root_positive
 use Rattle.numbers.proofs.root.root_positive.TheLink as root_root_positive-link
 use Rattle.numbers.proofs.root.root_small.Symbol as root_root_small
 use Rattle.numbers.proofs.root.root_small.TheLink as root_root_small-link
-use Rattle.numbers.proofs.root.rooted.Symbol as root_rooted
-use Rattle.numbers.proofs.root.rooted.TheLink as root_rooted-link
-use Rattle.numbers.proofs.root.rooted_near.Symbol as root_rooted_near
-use Rattle.numbers.proofs.root.rooted_near.TheLink as root_rooted_near-link
-use Rattle.numbers.proofs.root.scaled.Symbol as root_scaled
-use Rattle.numbers.proofs.root.scaled.TheLink as root_scaled-link
 use Rattle.numbers.proofs.root.whole_root.Symbol as root_whole_root
 use Rattle.numbers.proofs.root.whole_root.TheLink as root_whole_root-link
 use Rattle.numbers.proofs.vector.Quaternion.forward_speed_mps.Symbol as vector_Quaternion_forward_speed_mps
@@ -96,16 +96,16 @@ table =
     fork leaf ranges_is_half_turn_from_zero.symbol ranges_is_half_turn_from_zero-link.entry (
     fork leaf ranges_is_nan.symbol ranges_is_nan-link.entry (
     fork leaf ranges_is_positive.symbol ranges_is_positive-link.entry (
+    fork leaf root_Radicand_root_digits.symbol root_Radicand_root_digits-link.entry (
+    fork leaf root_Radicand_rooted.symbol root_Radicand_rooted-link.entry (
+    fork leaf root_Radicand_rooted_near.symbol root_Radicand_rooted_near-link.entry (
+    fork leaf root_Radicand_scaled.symbol root_Radicand_scaled-link.entry (
     fork leaf root_guess.symbol root_guess-link.entry (
     fork leaf root_nearest_of_three.symbol root_nearest_of_three-link.entry (
     fork leaf root_root.symbol root_root-link.entry (
-    fork leaf root_root_bits.symbol root_root_bits-link.entry (
-    fork leaf root_root_digits.symbol root_root_digits-link.entry (
+    fork leaf root_root_from_bits.symbol root_root_from_bits-link.entry (
     fork leaf root_root_positive.symbol root_root_positive-link.entry (
     fork leaf root_root_small.symbol root_root_small-link.entry (
-    fork leaf root_rooted.symbol root_rooted-link.entry (
-    fork leaf root_rooted_near.symbol root_rooted_near-link.entry (
-    fork leaf root_scaled.symbol root_scaled-link.entry (
     fork leaf root_whole_root.symbol root_whole_root-link.entry (
     fork leaf vector_Quaternion_forward_speed_mps.symbol vector_Quaternion_forward_speed_mps-link.entry (
     fork leaf vector_Quaternion_imag.symbol vector_Quaternion_imag-link.entry (
@@ -175,6 +175,26 @@ module _ (W : World) (in_numbers : Holds W "numbers" table) where
   unfolding table
   has_ranges_is_positive = ranges_is_positive-link.has (in_world W) false (in_table W "numbers" table in_numbers ranges_is_positive.symbol refl) has_logic_both has_ranges_is_finite
 
+  has_root_whole_root : HasT (in_world W) false root_whole_root.code
+  unfolding table
+  has_root_whole_root = root_whole_root-link.has (in_world W) false (in_table W "numbers" table in_numbers root_whole_root.symbol refl)
+
+  has_root_Radicand_root_digits : HasT (in_world W) false root_Radicand_root_digits.code
+  unfolding table
+  has_root_Radicand_root_digits = root_Radicand_root_digits-link.has (in_world W) false (in_table W "numbers" table in_numbers root_Radicand_root_digits.symbol refl) has_root_whole_root
+
+  has_root_Radicand_rooted : HasT (in_world W) false root_Radicand_rooted.code
+  unfolding table
+  has_root_Radicand_rooted = root_Radicand_rooted-link.has (in_world W) false (in_table W "numbers" table in_numbers root_Radicand_rooted.symbol refl) has_root_Radicand_root_digits
+
+  has_root_Radicand_scaled : HasT (in_world W) false root_Radicand_scaled.code
+  unfolding table
+  has_root_Radicand_scaled = root_Radicand_scaled-link.has (in_world W) false (in_table W "numbers" table in_numbers root_Radicand_scaled.symbol refl)
+
+  has_root_Radicand_rooted_near : HasT (in_world W) false root_Radicand_rooted_near.code
+  unfolding table
+  has_root_Radicand_rooted_near = root_Radicand_rooted_near-link.has (in_world W) false (in_table W "numbers" table in_numbers root_Radicand_rooted_near.symbol refl) has_root_Radicand_rooted has_root_Radicand_scaled
+
   has_bits_to_bits : HasT (in_world W) false bits_to_bits.code
   unfolding table
   has_bits_to_bits = bits_to_bits-link.has (in_world W) false (in_table W "numbers" table in_numbers bits_to_bits.symbol refl) has_ranges_is_nan
@@ -187,37 +207,17 @@ module _ (W : World) (in_numbers : Holds W "numbers" table) where
   unfolding table
   has_root_nearest_of_three = root_nearest_of_three-link.has (in_world W) false (in_table W "numbers" table in_numbers root_nearest_of_three.symbol refl)
 
-  has_root_whole_root : HasT (in_world W) false root_whole_root.code
-  unfolding table
-  has_root_whole_root = root_whole_root-link.has (in_world W) false (in_table W "numbers" table in_numbers root_whole_root.symbol refl)
-
-  has_root_root_digits : HasT (in_world W) false root_root_digits.code
-  unfolding table
-  has_root_root_digits = root_root_digits-link.has (in_world W) false (in_table W "numbers" table in_numbers root_root_digits.symbol refl) has_root_whole_root
-
-  has_root_rooted : HasT (in_world W) false root_rooted.code
-  unfolding table
-  has_root_rooted = root_rooted-link.has (in_world W) false (in_table W "numbers" table in_numbers root_rooted.symbol refl) has_root_root_digits
-
   has_root_root_small : HasT (in_world W) false root_root_small.code
   unfolding table
-  has_root_root_small = root_root_small-link.has (in_world W) false (in_table W "numbers" table in_numbers root_root_small.symbol refl) has_root_rooted
+  has_root_root_small = root_root_small-link.has (in_world W) false (in_table W "numbers" table in_numbers root_root_small.symbol refl) has_root_Radicand_rooted
 
-  has_root_scaled : HasT (in_world W) false root_scaled.code
+  has_root_root_from_bits : HasT (in_world W) false root_root_from_bits.code
   unfolding table
-  has_root_scaled = root_scaled-link.has (in_world W) false (in_table W "numbers" table in_numbers root_scaled.symbol refl)
-
-  has_root_rooted_near : HasT (in_world W) false root_rooted_near.code
-  unfolding table
-  has_root_rooted_near = root_rooted_near-link.has (in_world W) false (in_table W "numbers" table in_numbers root_rooted_near.symbol refl) has_root_rooted has_root_scaled
-
-  has_root_root_bits : HasT (in_world W) false root_root_bits.code
-  unfolding table
-  has_root_root_bits = root_root_bits-link.has (in_world W) false (in_table W "numbers" table in_numbers root_root_bits.symbol refl) has_root_guess has_root_nearest_of_three has_root_root_small has_root_rooted_near has_root_scaled
+  has_root_root_from_bits = root_root_from_bits-link.has (in_world W) false (in_table W "numbers" table in_numbers root_root_from_bits.symbol refl) has_root_Radicand_rooted_near has_root_Radicand_scaled has_root_guess has_root_nearest_of_three has_root_root_small
 
   has_root_root_positive : HasT (in_world W) false root_root_positive.code
   unfolding table
-  has_root_root_positive = root_root_positive-link.has (in_world W) false (in_table W "numbers" table in_numbers root_root_positive.symbol refl) has_root_root_bits
+  has_root_root_positive = root_root_positive-link.has (in_world W) false (in_table W "numbers" table in_numbers root_root_positive.symbol refl) has_root_root_from_bits
 
   has_root_root : HasT (in_world W) false root_root.code
   unfolding table

@@ -1,6 +1,6 @@
 -- The rounding of a fraction, where it is finite, is the binary32 number nearest to it, a tie to the even one; and so is the number that `of_decimal` gives for digits / 10 ^ places.
 -- Assumes nothing.
-use Rattle.std.specs.Prelude.{if◌then◌else◌}
+use Rattle.std.specs.Prelude.{Some, None, if◌then◌else◌}
 use mathlib.Core.Path.{◌≡◌, sym, ap, ap₂, ◌∙◌, subst}
 use mathlib.Core.Logic.{inl, inr}
 use mathlib.Core.Bool.{Bool, true, false}
@@ -19,7 +19,6 @@ use lib.Ieee.Scale.{grid}
 use Rattle.numbers.specs.Decimal.{of_decimal}
 use Rattle.numbers.specs.Nearest.{units, NoNearer, NearestFraction}
 use Rattle.numbers.specs.Numbers.{IsBinary32, finite, bits_of}
-use Rattle.numbers.specs.declared.decimal.Decimal.TheVariants.{Number, TooManyPlaces}
 use Rattle.numbers.proofs.Laws.Whole.{zero_times}
 use Rattle.numbers.proofs.Laws.Units.{finite_of_units, units_of_finite, units_top}
 use Rattle.numbers.proofs.Laws.Rounded.{rounded, rounded_grid, units_round, round_amount, shape, few_digits, rounded_below, rnd_exact}
@@ -120,11 +119,11 @@ fraction_finite a c C h =
     (rounded_below a c (1 * 2 ^ 213) C (rnd_exact 1 213 (lit< tt) (lit< tt)) (le_trans (mul-le-mul_right (2 ^ 149) h) (le_of_eq (mul_right_comm (2 ^ 64) c (2 ^ 149))))) (lit< tt)))
 
 -- ---- digits of 32 bits and at most nine places give the binary32 number that is nearest to digits / 10 ^ places
-pub nearest_decimal : (digits places : ℕ) → digits < 2 ^ 32 → places ≤ 9 → (r : Float) × (of_decimal digits places ≡ Number r) × NearestFraction digits (10 ^ places) r
+pub nearest_decimal : (digits places : ℕ) → digits < 2 ^ 32 → places ≤ 9 → (r : Float) × (of_decimal digits places ≡ Some r) × NearestFraction digits (10 ^ places) r
 nearest_decimal digits places h l =
     let c = 10 ^ places in
     let C : 10 ^ 0 ≤ c = pow-le-pow_right (lit< tt) zero-le in (
       round binary32 false digits c,
-      ap (λ (b : Bool). if b then Number (round binary32 false digits c) else TooManyPlaces) (le-leb places 9 l),
+      ap (λ (b : Bool). if b then Some (round binary32 false digits c) else None) (le-leb places 9 l),
       nearest_fraction digits c C (fraction_finite digits c C (le_trans (le_of_lt h) (le_trans (lit≤ tt) (mul-le-mul_left (2 ^ 64) C)))),
     )

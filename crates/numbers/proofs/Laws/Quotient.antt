@@ -3,13 +3,13 @@
 use mathlib.Core.Path.{◌≡◌, refl, sym, ap, ◌∙◌, subst}
 use mathlib.Core.Logic.{inl, inr}
 use mathlib.Core.Bool.{false}
-use Prim.Native.Nat.{ℕ, suc, ◌+◌, ◌-◌, ◌*◌, ◌/◌, ◌%◌, ◌^◌, ◌≤◌, ◌<◌, compare, Ordering}
+use Prim.Native.Nat.{ℕ, suc, ◌+◌, ◌-◌, ◌*◌, ◌/◌, ◌%◌, ◌^◌, ◌≤◌, ◌<◌, zero-le, compare}
 use native.Mathlib.Nat.{le_trans, le_of_eq, lt_of_le_of_lt, lt_of_lt_of_le, eq-or-lt_of_le, mul_assoc, mul_comm, mul_right_comm}
 use native.Mathlib.Nat.{mul-pos, mul-le-mul_right, mul-lt-mul_of_pos_right, le-div_iff_mul-le, div-lt_iff_lt-mul, pow-le-pow_right}
 use native.Mathlib.Omega.{arith}
 use lib.Dec.{lit<, lit≤}
 use lib.Pow.{pow-add, pow_pos, pow-lt}
-use lib.Ieee.{binary32, size, nearest, round, of_bits}
+use lib.Ieee.{binary32, size, round, of_bits}
 use lib.Ieee.Exact.{HasValue}
 use lib.Ieee.Fits.{nearest-le, round-fits}
 use lib.Ieee.Bits.{of_bits-fits}
@@ -17,34 +17,8 @@ use lib.Ieee.Nearest.{closest, closest_same, div_same, nearest-ge}
 use lib.Ieee.Order.{drop}
 use lib.Ieee.Scale.{grid, round_same, round_val}
 use Rattle.numbers.specs.Numbers.{zero32}
-use Rattle.numbers.proofs.Laws.Rounded.{Compared, compared}
 use Rattle.numbers.proofs.Laws.Rounding.{unique}
 use Rattle.numbers.proofs.Laws.RootPattern.{size_is, pattern_value}
-
--- ---- n / d to the nearest whole number, by the remainder's double against d
-pub closest_down : (n d : ℕ) → n % d * 2 < d → closest n d ≡ n / d
-closest_down n d h = go (compare (n % d * 2) d) (compared (n % d * 2) d)
-  where
-    go : (o : Ordering) → Compared o (n % d * 2) d → nearest (n / d) o ≡ n / d
-    go Ordering.lt k = refl
-    go Ordering.eq k = absurd (let z : ⊥ = omega arith in z)
-    go Ordering.gt k = absurd (let z : ⊥ = omega arith in z)
-
-pub closest_up : (n d : ℕ) → d < n % d * 2 → closest n d ≡ n / d + 1
-closest_up n d h = go (compare (n % d * 2) d) (compared (n % d * 2) d)
-  where
-    go : (o : Ordering) → Compared o (n % d * 2) d → nearest (n / d) o ≡ n / d + 1
-    go Ordering.lt k = absurd (let z : ⊥ = omega arith in z)
-    go Ordering.eq k = absurd (let z : ⊥ = omega arith in z)
-    go Ordering.gt k = omega arith
-
-pub closest_tie : (n d : ℕ) → d ≤ n % d * 2 → n % d * 2 ≤ d → closest n d ≡ n / d + n / d % 2
-closest_tie n d h g = go (compare (n % d * 2) d) (compared (n % d * 2) d)
-  where
-    go : (o : Ordering) → Compared o (n % d * 2) d → nearest (n / d) o ≡ n / d + n / d % 2
-    go Ordering.lt k = absurd (let z : ⊥ = omega arith in z)
-    go Ordering.eq k = refl
-    go Ordering.gt k = absurd (let z : ⊥ = omega arith in z)
 
 -- ---- the number of a bit pattern whose digits may have reached 2 ^ 24
 carried_value : (j r : ℕ) → 2 ^ 23 ≤ r → r ≤ 2 ^ 24 → j < 253 → HasValue (of_bits binary32 (j * 2 ^ 23 + r)) false (r * 2 ^ j) (2 ^ 149)
@@ -58,7 +32,7 @@ carried_value j r lo hi h =
     next = omega arith
 
     digits : 2 ^ 23 * 2 ^ suc j ≡ 2 ^ 24 * 2 ^ j
-    digits = sym (pow-add 2 23 (suc j)) ∙ ap (λ (z : ℕ). 2 ^ z) (let e : 23 + suc j ≡ 24 + j = omega arith in e) ∙ pow-add 2 24 j
+    digits = grind (arith, pow-add)
 
     full : HasValue (of_bits binary32 (j * 2 ^ 23 + 2 ^ 24)) false (2 ^ 24 * 2 ^ j) (2 ^ 149)
     full =
@@ -67,7 +41,7 @@ carried_value j r lo hi h =
         (pattern_value (suc j) (2 ^ 23) (lit≤ tt) (lit< tt) (let g : suc j < 254 = omega arith in g)))
 
 swapped : (n x y d : ℕ) → n * x * y * d ≡ n * x * (d * y)
-swapped n x y d = mul_assoc (n * x) y d ∙ ap (λ (z : ℕ). n * x * z) (mul_comm y d)
+swapped n x y d = grind (arith, mul_assoc, mul_comm)
 
 -- ---- a quotient n / d of 24 digits
 module _ (n d : ℕ) (D : 0 < d) (lo : 2 ^ 23 * d ≤ n) (hi : n < 2 ^ 24 * d) where
@@ -101,12 +75,10 @@ module _ (n d : ℕ) (D : 0 < d) (lo : 2 ^ 23 * d ≤ n) (hi : n < 2 ^ 24 * d) w
             (le_of_eq (mul_right_comm (2 ^ 24) d (2 ^ e) ∙ ap (λ (z : ℕ). z * d) (sym (pow-add 2 24 e) ∙ ap (λ (z : ℕ). 2 ^ z) (let g : 24 + e ≡ suc (23 + e) = omega arith in g))))
 
     keeps : closest (n * 2 ^ e * 2 ^ 149) (d * 2 ^ 149 * 2 ^ e) ≡ closest n d
-    keeps =
-        closest_same (n * 2 ^ e * 2 ^ 149) (d * 2 ^ 149 * 2 ^ e) n d (mul-pos (mul-pos D (pow_pos 149)) (pow_pos e)) D
-        (swapped n (2 ^ e) (2 ^ 149) d ∙ mul_assoc n (2 ^ e) (d * 2 ^ 149) ∙ ap (λ (z : ℕ). n * z) (mul_comm (2 ^ e) (d * 2 ^ 149)))
+    keeps = grind (arith, closest_same, mul-pos, pow_pos, swapped, mul_assoc, mul_comm)
 
     grid_is : grid binary32 (n * 2 ^ e) (d * 2 ^ 149) ≡ closest n d * 2 ^ e
-    grid_is = ap (λ (k : ℕ). closest (n * 2 ^ e * 2 ^ 149) (d * 2 ^ 149 * 2 ^ k) * 2 ^ k) dropped ∙ ap (λ (z : ℕ). z * 2 ^ e) keeps
+    grid_is = grind (arith, dropped, keeps)
 
     pub pattern_quotient : e ≤ 158 → of_bits binary32 (e * 2 ^ 23 + closest n d) ≡ round binary32 false (n * 2 ^ e) (d * 2 ^ 149)
     pattern_quotient h =
@@ -120,9 +92,7 @@ module _ (n d : ℕ) (D : 0 < d) (lo : 2 ^ 23 * d ≤ n) (hi : n < 2 ^ 24 * d) w
 
 -- ---- that it is m / d, where n has come from m by doublings
 pub doubled_quotient : (m d n e : ℕ) → 0 < d → n * 2 ^ e ≡ m * 2 ^ 158 → round binary32 false (n * 2 ^ e) (d * 512 * 2 ^ 149) ≡ round binary32 false m d
-doubled_quotient m d n e D h =
-    round_same binary32 false (n * 2 ^ e) (d * 512 * 2 ^ 149) m d (mul-pos (mul-pos D (lit< tt)) (pow_pos 149)) D
-    (ap (λ (z : ℕ). z * d) h ∙ mul_assoc m (2 ^ 158) d ∙ ap (λ (z : ℕ). m * z) (mul_comm (2 ^ 158) d ∙ sym (mul_assoc d 512 (2 ^ 149))))
+doubled_quotient m d n e D h = grind (arith, round_same, mul-pos, pow_pos, mul_assoc, mul_comm)
 
 -- ---- 0 / d is +0
 zero_one : round binary32 false 0 1 ≡ zero32
@@ -130,8 +100,8 @@ unfolding round of_bits
 zero_one = refl
 
 pub zero_quotient : (d : ℕ) → 0 < d → round binary32 false 0 d ≡ zero32
-zero_quotient d D = round_same binary32 false 0 d 0 1 D (lit< tt) (omega arith) ∙ zero_one
+zero_quotient d D = grind (arith, round_same, zero_one)
 
--- ---- a power of ten of nine zeros at most has 30 digits at most
-pub ten_power : (k : ℕ) → k ≤ 9 → 10 ^ k < 2 ^ 30
-ten_power k h = lt_of_le_of_lt (pow-le-pow_right (lit< tt) h) (lit< tt)
+-- ---- a power of ten of nine zeros at most is above 0 and has 30 digits at most
+pub ten_power : (k : ℕ) → k ≤ 9 → 0 < 10 ^ k × 10 ^ k < 2 ^ 30
+ten_power k h = (pow-le-pow_right (lit< tt) zero-le, lt_of_le_of_lt (pow-le-pow_right (lit< tt) h) (lit< tt))

@@ -1,25 +1,33 @@
 -- `card::chain::follow` meets its contract: the laws of the walk, at the tests on the way. The measure is the number of marks not set. Assumes nothing.
-use mathlib.Core.Path.{sym, ◌∙◌}
-use Rattle.card.proofs.Laws.Walk.{start, again, unknown, fewer, turn}
+use Rattle.std.proofs.Common.{◌≡◌, ◌∙◌, ap}
+use Rattle.card.specs.Format.{next_at, record_at}
+use Rattle.card.proofs.Laws.Parts.{next_in, record_in}
+use Rattle.card.proofs.Laws.Walk.{start, again, unknown, fewer, turn, known_some}
 use Rattle.card.proofs.chain.follow.Goals as goal
 
 pub loop-link-init : goal.loop-link-init
 loop-link-init c =
+    let card = c.args.card.now in
     let pre = c.requires in
-    rw c.next_at-link.ensures (start _ _ _ pre.0 pre.1 pre.2 pre.3)
+    let e : c.next_of-link.result ≡ next_at card 0 = c.next_of-link.ensures ∙ ap (λ b. next_at b 0) c.record_part.ensures ∙ next_in card 0 in
+    rw e (start card _ pre.0 pre.1 pre.2)
 
 pub returns-then-marks-link-eq1 : goal.returns-then-marks-link-eq1
-returns-then-marks-link-eq1 c = again c.loop-link.invariant c.loop-link-test.true c.if-link-n.false c.if-marks-link-eq1.true
+returns-then-marks-link-eq1 c = again c.loop-link.invariant c.loop-link-test.true c.if-link-marks.false c.if-marks-link-eq1.true
 
-pub returns-then-not-is_known : goal.returns-then-not-is_known
-returns-then-not-is_known c =
-    unknown c.loop-link.invariant c.loop-link-test.true c.if-link-n.false c.if-marks-link-eq1.false (sym c.is_known.ensures ∙ c.if-not-is_known.true)
+pub returns-then-is_none : goal.returns-then-is_none
+returns-then-is_none c =
+    let card = c.args.card.now in
+    let e = c.call_of.ensures ∙ ap (λ b. record_at b 0) c.record_part-here.ensures ∙ record_in card c.loop-link.link in
+    unknown c.loop-link.invariant c.loop-link-test.true c.if-link-marks.false c.if-marks-link-eq1.false (known_some e c.if-is_none.ensures)
 
 pub loop-link-smaller : goal.loop-link-smaller
-loop-link-smaller c =
-    fewer c.loop-link.invariant c.loop-link-test.true c.if-link-n.false c.if-marks-link-eq1.false
+loop-link-smaller c = fewer c.loop-link.invariant c.loop-link-test.true c.if-link-marks.false c.if-marks-link-eq1.false
 
 pub loop-link-preserved : goal.loop-link-preserved
 loop-link-preserved c =
-    rw c.next_at-link-in-loop-link.ensures
-    (turn c.loop-link.invariant c.loop-link-test.true c.if-link-n.false c.if-marks-link-eq1.false (sym c.is_known.ensures ∙ c.if-not-is_known.false))
+    let card = c.args.card.now in
+    let link = c.loop-link.link in
+    let e = c.call_of.ensures ∙ ap (λ b. record_at b 0) c.record_part-here.ensures ∙ record_in card link in
+    let n : c.next_of-link-in-loop-link.result ≡ next_at card link = c.next_of-link-in-loop-link.ensures ∙ ap (λ b. next_at b 0) c.record_part-here.ensures ∙ next_in card link in
+    rw n (turn c.loop-link.invariant c.loop-link-test.true c.if-link-marks.false c.if-marks-link-eq1.false (known_some e c.if-is_none.ensures))

@@ -1,25 +1,29 @@
 -- `card::run::run` meets its contract. Assumes nothing.
-use mathlib.Core.Path.{sym, ◌∙◌}
-use native.Mathlib.Nat.{zero-add}
+use Rattle.std.proofs.Common.{◌∙◌, sym, ap, rules, arith, length, zero-add}
+use Rattle.card.specs.CardRefusals.{card_refusal_of, card_field_of}
+use Rattle.card.proofs.Laws.Lines.{card_long}
 use Rattle.card.proofs.Laws.Written.{at_start}
 use Rattle.card.proofs.Laws.SecondWalk.{found}
-use borrow.Author.Rules.{rules}
 use Rattle.card.proofs.run.run.Goals as goal
 
-pub run_checked-requires : goal.run_checked-requires
-run_checked-requires c =
-    let f = found _ _ _ (sym c.in-Walk.is ∙ c.check-checked.ensures.answers) in (f.whole_card, f.walk, search rules)
+pub run_records-requires : goal.run_records-requires
+run_records-requires c =
+    let f = found _ _ _ (sym c.in-Ok.is ∙ c.check.ensures.answers) in
+    (f.whole_card, simp f.header_joined, f.walk, search rules)
 
-pub returns-in-Walk-clause-runs : goal.returns-in-Walk-clause-runs
-returns-in-Walk-clause-runs c =
-    let ran = c.run_checked.ensures.0 in
-    let checked = c.check-checked.ensures in
-    simp (sym checked.answers ∙ c.in-Walk.is)
+pub put-requires : goal.put-requires
+put-requires c = let long = ap length (c.as_bytes.ensures ∙ c.card_line.ensures) in omega (arith, long, card_long (card_refusal_of c.in-Err.why) (card_field_of c.in-Err.why), c.told-out)
+
+pub returns-in-Ok-clause-runs : goal.returns-in-Ok-clause-runs
+returns-in-Ok-clause-runs c =
+    let ran = c.run_records.ensures.0 in
+    let checked = c.check.ensures in
+    simp (sym checked.answers ∙ c.in-Ok.is)
     (record { answers = ran.next ∙ zero-add _; marks = checked.marks; writes = at_start ran (search rules) })
 
-pub returns-in-Refused-clause-runs : goal.returns-in-Refused-clause-runs
-returns-in-Refused-clause-runs c =
-    let ran = c.card_line.ensures.0 in
-    let checked = c.check-checked.ensures in
-    simp (sym checked.answers ∙ c.in-Refused.is)
+pub returns-in-Err-clause-runs : goal.returns-in-Err-clause-runs
+returns-in-Err-clause-runs c =
+    let ran = simp (c.as_bytes.ensures, c.card_line.ensures) at c.put.ensures in
+    let checked = c.check.ensures in
+    simp (sym checked.answers ∙ c.in-Err.is)
     (record { answers = ran.next ∙ zero-add _; marks = checked.marks; writes = at_start ran (search rules) })

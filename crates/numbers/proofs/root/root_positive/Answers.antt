@@ -4,14 +4,11 @@ use lib.Dec.{T}
 use lib.Ieee.{binary32}
 use lib.Ieee.Bits.{of_bits-to_bits}
 use Rattle.numbers.specs.Root.{root_of}
-use Rattle.numbers.proofs.Laws.RootCases.{positive_pattern, below_infinity}
+use Rattle.numbers.proofs.Laws.RootCases.{positive_pattern}
 use Rattle.numbers.proofs.root.root_positive.Goals as goal
 
-pub root_bits-requires : goal.root_bits-requires
-root_bits-requires c = positive_pattern c.args.x (subst T (sym c.well_formed.0.1) tt) c.requires
-
-pub float_from_bits-result : goal.float_from_bits-result
-float_from_bits-result c = below_infinity c.root_bits.result c.root_bits.ensures.1
+pub root_from_bits-requires : goal.root_from_bits-requires
+root_from_bits-requires c = positive_pattern c.args.x (subst T (sym c.well_formed.0.1) tt) c.requires
 
 pub returns : goal.returns
-returns c = c.root_bits.ensures.0 ∙ ap root_of (of_bits-to_bits binary32 c.args.x (subst T (sym c.well_formed.0.1) tt))
+returns c = c.root_from_bits.ensures ∙ ap root_of (of_bits-to_bits binary32 c.args.x (subst T (sym c.well_formed.0.1) tt))

@@ -2,8 +2,8 @@
 use Rattle.joined.proofs.Laws.Effects.{by_update}
 use Rattle.joined.proofs.joined.Joined.step.Goals as goal
 
-pub returns-in-Step : goal.returns-in-Step
-returns-in-Step c =
+pub returns-in-Ok : goal.returns-in-Ok
+returns-in-Ok c =
     let given = c.args in
     simp (c.stepped_by.ensures, c.cut_or.ensures)
-    (by_update given.self given.input c.update-update.result c.update-update.ensures _ c.in-Step.is)
+    (by_update given.self given.input c.update-update.result c.update-update.ensures _ c.in-Ok.is)

@@ -10,6 +10,7 @@ from tool import Bad
 
 WRITE = "python3 -B tools/pages.py write"
 JOINED_SETTINGS_CODE, RECORD_CODE, KINDS_CODE = "crates/joined/src/settings.rt", "crates/card/src/record.rt", "crates/card/src/kind.rt"
+CALL_CODE = "crates/joined/src/call.rt"
 NAMES_CODE = "crates/writer/src/names.rt"
 REASONS_CODE, LETTERS_CODE, REFUSALS_CODE = "crates/machines/src/lib.rt", "crates/joined/src/answer.rt", "crates/card/src/refusal.rt"
 # Of each airframe: the struct of its settings, which is made of a record's numbers by From, and the constant of its defaults.
@@ -146,15 +147,15 @@ def reader_words(keys, what):
 
 
 def code_numbers():
-    """The numbers of a step in record.rt: of each number its field and, if it is one of several, its component."""
-    text, numbers = source(RECORD_CODE), {}
-    for function in ("vehicle_at", "step_input_at"):
+    """The numbers of a step in call.rt: of each number its field and, if it is one of several, its component."""
+    text, numbers = source(CALL_CODE), {}
+    for function in ("vehicle_of", "of"):
         field = ""
-        for line in block(text, rf"fn {function}\(", RECORD_CODE).splitlines():
-            opened, number = re.fullmatch(r" +(\w+): \w+ \{", line), re.search(r"number_at\(card, i, (\d+)\)", line)
+        for line in block(text, rf"pub fn {function}<", CALL_CODE).splitlines():
+            opened, number = re.fullmatch(r" +(\w+): \w+ \{", line), re.search(r"numbers\.number\((\d+)\)", line)
             field = opened[1] if opened else "" if line.strip() == "}," else field
             if number:
-                name = re.match(r" *(?:let )?(\w+)", line)[1]
+                name = re.match(r" *(\w+)", line)[1]
                 numbers[int(number[1])] = (field, name) if field else (name, "")
     return numbers
 
@@ -170,23 +171,23 @@ def check_parts(found):
         components = ("wxyz" if part.size == 4 else "xyz"[: part.size]) if part.size > 1 else ""
         same = base == part.name and len({field for field, _ in fields}) == 1 and "".join(last for _, last in fields) == components and unit in ("", part.unit)
         shown = ", ".join(f"{field} {last}".strip() for field, last in fields)
-        found.hold(f"number {span(places)} of a step, {with_unit(part.name, part.unit)}", same, f"{RECORD_CODE} reads {shown} there; correct it in {TABLES}")
+        found.hold(f"number {span(places)} of a step, {with_unit(part.name, part.unit)}", same, f"{CALL_CODE} reads {shown} there; correct it in {TABLES}")
     more = sorted(set(numbers) - ours)
-    found.hold("the numbers of a step", not more, f"{RECORD_CODE} reads number {span(more)} too, which PARTS of {TABLES} does not have")
-    z = re.findall(r"Call::Prime\(number_at\(card, i, (\d+)\)\)", source(RECORD_CODE))
+    found.hold("the numbers of a step", not more, f"{CALL_CODE} reads number {span(more)} too, which PARTS of {TABLES} does not have")
+    z = re.findall(r"Call::Prime\(Placed\(bytes\)\.number\((\d+)\)\)", source(RECORD_CODE))
     found.hold("the number of a prime", z == [str(fc.PRIME_Z)], f"{TABLES} has {fc.PRIME_Z}, {RECORD_CODE} {' '.join(z)}")
 
 
 def check_words(found):
     """Kinds, reports, reasons of a cut, mode letters and refusals, by their names in the code."""
     record, reasons, refusals = source(RECORD_CODE), source(REASONS_CODE), source(REFUSALS_CODE)
-    numbers = {name: int(number) for name, number in re.findall(r"const (\w+): u8 = (\d+);", source(KINDS_CODE))}
-    kinds = {numbers.get(kind, kind): name for kind, name in re.findall(r"^ +([A-Z]+) => .*?(Call::\w+|cut_for|Airframe::\w+)\(?", record, re.M)}
+    numbers = {name: int(number) for name, number in re.findall(r"Kind::(\w+) => (\d+)", source(KINDS_CODE))}
+    kinds = {numbers.get(kind, kind): name for kind, name in re.findall(r"^ +Kind::(\w+) => .*?(Call::\w+|cut_for|Airframe::\w+)\(?", record, re.M)}
     same_words(found, "kinds", KIND_CODE, kinds, f"{RECORD_CODE} by {KINDS_CODE}")
     numbered = {int(number): name for name, number in re.findall(r"ModeRefusal::(\w+) => (\d+)", reasons)}
     same_words(found, "REPORTS", fc.REPORTS, numbered, REASONS_CODE)
-    cuts = {int(number): name for number, name in re.findall(r"(\d+) => Record::Known\(Call::Cut\(ModeRefusal::(\w+)\)\)", record)}
-    same_words(found, "the options of a cut", {option: fc.REPORTS.get(option, "no report") for option in fc.OPTIONS[fc.CUT]}, cuts, RECORD_CODE)
+    cuts = {int(number): name for number, name in re.findall(r"(\d+) => Ok\(ModeRefusal::(\w+)\)", reasons)}
+    same_words(found, "the options of a cut", {option: fc.REPORTS.get(option, "no report") for option in fc.OPTIONS[fc.CUT]}, cuts, REASONS_CODE)
     same_words(found, "MODES", fc.MODES, {letter: mode for mode, letter in LETTERED.findall(source(LETTERS_CODE))}, LETTERS_CODE)
     calls = {int(number) for name, number in re.findall(r"InputRefusal::(\w+)(?:\(_\))? => ([1-9]\d*)", reasons) if name not in NOT_OF_A_CARD}
     same_words(found, "the refusals of a call", dict.fromkeys(fc.CALL_REFUSALS, "a refusal"), dict.fromkeys(calls, "a refusal"), REASONS_CODE)

@@ -153,11 +153,11 @@ TAILSITTER_SETTINGS = [
 ]
 QUADPLANE_SETTINGS = [
     Setting("min_airspeed_mps", "m/s", "[0, ∞)", "9", "the first step after the one that entered ToPlane with a valid airspeed at or above this begins the ramp; without a reading none begins, at 0 neither", "machines/lift: ramp"),
-    Setting("lift_ramp_s", "s", "(0, ∞)", "5", "how long the ramp takes the rotors' share from 1 to 0; Plane after it", "machines/lift: lift_share, moved"),
-    Setting("timeout_s", "s", "(0, ∞)", "15", "after more than this without a ramp ToPlane is given up (report 14)", "machines/lift: moved"),
+    Setting("lift_ramp_s", "s", "(0, ∞)", "5", "how long the ramp takes the rotors' share from 1 to 0; Plane after it", "machines/lift: forward_share, ramp_done"),
+    Setting("timeout_s", "s", "(0, ∞)", "15", "after more than this without a ramp ToPlane is given up (report 14)", "machines/lift: ramp_timed_out"),
     Setting("min_height_m", "m", "[0, ∞)", "5", "ToPlane is entered at this height or above, and at the height of setting 5 or above (else report 13)", "machines/lift: moved"),
     Setting("plane_min_height_m", "m", "[0, ∞)", "0", "the floor: below it Plane is given up (report 16); also a minimum for entering ToPlane; 0 is off", "machines/lift: moved"),
-    Setting("back_ramp_s", "s", "(0, ∞)", "3", "how long the rotors' share takes from 0 to 1 in ToCopter; where Plane was given up it is 1 at once", "machines/lift: lift_share"),
+    Setting("back_ramp_s", "s", "(0, ∞)", "3", "how long the rotors' share takes from 0 to 1 in ToCopter; where Plane was given up it is 1 at once", "machines/lift: back_share"),
     Setting("back_speed_mps", "m/s", "[0, ∞)", "5", "ToCopter is done below this forward speed; where the forward speed is not finite, the valid airspeed counts; at 0 only flying backwards or setting 8 ends ToCopter", "machines/lift: slowed"),
     Setting("back_timeout_s", "s", "(0, ∞)", "10", "after more than this ToCopter ends in Copter", "machines/lift: moved"),
     Setting("back_decel_mps2", "m/s²", "[0, ∞)", "2", "the deceleration that ToCopter aims at", "joined/thrust: decelerated"),

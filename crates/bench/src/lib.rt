@@ -3,104 +3,28 @@
 
 ghost use Rattle.std.specs.Prelude.{◌≡◌, ◌+◌, ◌*◌, ◌%◌, ◌^◌, ◌≤◌, length, Ok};
 ghost use Rattle.joined.specs.Shown.{output_bits, shown_of};
-ghost use Rattle.joined.specs.Calls.{settings_by, step_input_by};
 ghost use Rattle.bench.specs.Steps.{number_at, output_sum, shown_sum, steps_sum, airframe_for, bench_of};
 
 use joined::answer::{Line, letter};
-use joined::call::{StepInput, airspeed_by, requested_by};
+use joined::call::StepInput;
 use joined::joined::Joined;
 use joined::machine::Airframe;
-use joined::settings::Settings;
+use joined::settings::{Numbers, Settings};
 use machines::answer::ShareOrTilt;
-use machines::{InputRefusal, VehicleState, report_number};
+use machines::{InputRefusal, report_number};
 use numbers::bits::to_bits;
-use numbers::vector::{Quaternion, Vec2, Vec3};
+use numbers::constants::nan;
 
-// What a step is told: its option, and its 15 numbers.
-#[tactic(auto, unfolding(joined::specs::Calls::step_input_by, joined::specs::Calls::vehicle_by))]
-fn step_of(option: u8, numbers: &[f32; 15]) -> StepInput
-    ensures { result ≡ step_input_by option (number_at numbers.now 0) }
-{
-    let [
-        dt,
-        z_m,
-        vx,
-        vy,
-        vz,
-        ax,
-        ay,
-        w,
-        x,
-        y,
-        z,
-        airspeed,
-        entry_tilt_rad,
-        bank_rad,
-        demand,
-    ] = *numbers;
-    let state = VehicleState {
-        z_m,
-        velocity_mps: Vec3 {
-            x: vx,
-            y: vy,
-            z: vz,
-        },
-        acceleration_mps2: Vec2 { x: ax, y: ay },
-        attitude: Quaternion { w, x, y, z },
-        airspeed: airspeed_by(option, airspeed),
-    };
-    StepInput {
-        dt,
-        requested: requested_by(option),
-        state,
-        entry_tilt_rad,
-        bank_rad,
-        demand,
-    }
-}
+// Numbers in a row.
+#[derive(Drop)]
+struct Row<'a>(&'a [f32]);
 
-// The numbers as settings.
-#[tactic(auto, unfolding(joined::specs::Calls::settings_by))]
-fn settings_of(numbers: &[f32; 17]) -> Settings
-    ensures { result ≡ settings_by (number_at numbers.now 0) }
-{
-    let [
-        n1,
-        n2,
-        n3,
-        n4,
-        n5,
-        n6,
-        n7,
-        n8,
-        n9,
-        n10,
-        n11,
-        n12,
-        n13,
-        n14,
-        n15,
-        n16,
-        n17,
-    ] = *numbers;
-    Settings {
-        n1,
-        n2,
-        n3,
-        n4,
-        n5,
-        n6,
-        n7,
-        n8,
-        n9,
-        n10,
-        n11,
-        n12,
-        n13,
-        n14,
-        n15,
-        n16,
-        n17,
+impl Numbers for Row<'_> {
+    ghost number_by = { λ it. number_at it.0.now 0 };
+
+    fn number(&self, k: usize) -> f32 {
+        let numbers = self.0;
+        numbers.get(k.saturating_sub(1)).copied().unwrap_or(nan())
     }
 }
 
@@ -145,15 +69,15 @@ fn steps(start: Joined, numbers: &[f32], options: &[u8]) -> u32
 {
     let mut joined = start;
     let mut sum = 0;
-    for (option, numbers) in options.iter().zip(numbers.as_chunks().0) {
-        let update = joined.step(step_of(*option, numbers));
+    for (option, numbers) in options.iter().zip(numbers.as_chunks::<15>().0) {
+        let update = joined.step(StepInput::of(*option, &Row(numbers)));
         joined = update.state;
         sum = add_answer(sum, update.answer);
     }
     sum
 }
 
-// Kind 5 is the tailsitter, any other the quadplane.
+// Kind 5 is the tailsitter, any other the quadplane. A byte, as C hands it over.
 fn airframe(kind: u8) -> Airframe
     ensures { result ≡ airframe_for kind }
 {
@@ -166,6 +90,7 @@ fn airframe(kind: u8) -> Airframe
 
 // Makes a joined machine, primes it at z 0 and takes it through the steps: the sum of their answers.
 // 0 if the settings are refused, or for more than 800 steps or fewer than 15 numbers for each.
+// The airframe is a number, and the steps' numbers and options lie apart, since the C interface has them so (bench/src/sides.rs).
 #[unsafe(no_mangle)]
 pub extern "C" fn bench_steps(
     kind: u8,
@@ -182,7 +107,7 @@ pub extern "C" fn bench_steps(
     if 15 * count > numbers.len() {
         return 0;
     }
-    match Joined::new(airframe(kind), settings_of(settings)) {
+    match Joined::new(airframe(kind), Settings::of(&Row(settings))) {
         Ok(joined) => steps(joined.prime(0.0).state, numbers, options),
         Err(_) => 0,
     }

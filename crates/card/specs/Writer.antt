@@ -63,7 +63,7 @@ abbrev pub write_by : Result Joined InputRefusal → Airframe → Settings → �
 write_by (Err why) a s n cs d = not_written (refusal.Header why) d
 write_by (Ok j) a s n cs d = record { answer = Ok (card_bytes n); out = card_of a s n cs ++ drop (card_bytes n) d }
 
--- of the n calls cs: n is the number that the caller gives, and above 799 it is refused whatever else he gives. 21 and 22 come "before any setting is looked at".
+-- of the n calls cs: more than 799 are refused, whatever they are. 21 and 22 come "before any setting is looked at".
 -- Nothing is asked of the calls: a settings call's numbers "are left to the run"
 unfoldable pub write_of : Airframe → Settings → ℕ → List Call → List ℕ → Writing
 write_of a s n cs d =

@@ -6,6 +6,7 @@ ghost use Rattle.card.specs.Text.{Written};
 use numbers::bits::from_bits;
 
 // The 16-bit number that starts at byte `at`.
+#[tactic(auto, unfolding(crate::specs::Bytes::u16_at))]
 pub(crate) fn u16_at(bytes: &[u8], at: usize) -> u16
     requires { at + 2 ≤ length bytes.now }
     ensures { result ≡ u16_at bytes.now at }
@@ -14,6 +15,7 @@ pub(crate) fn u16_at(bytes: &[u8], at: usize) -> u16
 }
 
 // The binary32 number whose bits start at byte `at`, any NaN's as the NaN.
+#[tactic(auto, unfolding(crate::specs::Bytes::u32_at))]
 pub(crate) fn f32_at(bytes: &[u8], at: usize) -> f32
     requires { at + 4 ≤ length bytes.now }
     ensures { result ≡ float_at bytes.now at }

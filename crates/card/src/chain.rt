@@ -59,6 +59,7 @@ fn check_records(card: &[u8], marks: &mut [u8]) -> Result<usize, CardRefusal>
 }
 
 // Whether a card can be run: how many records there are to walk after the header, or a refusal; and in `marks` which of its records were passed.
+#[tactic(auto, using(crate::proofs::Laws::Outcomes::with_rest), unfolding(crate::specs::Chain::outcome_of))]
 pub fn check(card: &[u8], marks: &mut [u8]) -> Result<usize, CardRefusal>
     ensures { Leaves (outcome_of card.now marks.old) result marks.new }
 {

@@ -17,7 +17,7 @@ pub(crate) struct Encoded {
     pub(crate) numbers: [u32; 19],
 }
 
-// 1 for Plane, 0 for Copter.
+// 1 for Plane, 0 for Copter. A function, as the two below, and no `From`: neither type is this crate's.
 fn request_number(requested: FlightRegime) -> u8
     ensures { (result ≡ request_number requested) × (result < 2) }
 {
@@ -44,7 +44,7 @@ fn speed_bits(airspeed: Option<f32>) -> u32
     airspeed.map_or(0, to_bits)
 }
 
-// The settings that an airframe uses, 0 for the others.
+// The settings that an airframe uses, 0 for the others. Two arguments, here and below, as those of `Joined::new` and of `write`, whose promises speak of the two.
 fn used_settings(airframe: Airframe, s: Settings) -> Settings
     ensures { result ≡ used_settings airframe s }
 {
@@ -58,7 +58,8 @@ fn used_settings(airframe: Airframe, s: Settings) -> Settings
     }
 }
 
-// The numbers of a settings record.
+// The numbers of a settings record. Field by field, here and below: the fields have names, and each its place.
+#[tactic(auto, unfolding(crate::specs::Encoding::settings_numbers))]
 fn settings_numbers(s: Settings) -> [u32; 19]
     ensures { result ≡ settings_numbers s }
 {
@@ -86,6 +87,7 @@ fn settings_numbers(s: Settings) -> [u32; 19]
 }
 
 // The numbers of a step.
+#[tactic(auto, unfolding(crate::specs::Encoding::step_numbers))]
 fn step_numbers(input: StepInput) -> [u32; 19]
     ensures { result ≡ step_numbers input }
 {

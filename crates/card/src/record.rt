@@ -1,20 +1,21 @@
 // The records of a card (document 01, section 7). A record stands for itself as 80 bytes; its kind and the like are those of record 0 of a card that is that record alone.
-ghost use Rattle.std.specs.Prelude.{◌≡◌, ◌<◌};
+ghost use Rattle.std.specs.Prelude.{◌≡◌, ◌<◌, ltb, if◌then◌else◌};
+ghost use Rattle.numbers.specs.Numbers.{zero32};
 ghost use Rattle.joined.specs.Joined.{new_of};
-ghost use Rattle.card.specs.Format.{kind_by, record_part, kind_at, option_at, next_at, number_at, settings_at, vehicle_at, step_input_at, cut_for, record_at, read_of, header_for, header_of};
+ghost use Rattle.card.specs.Format.{kind_by, record_part, kind_at, option_at, next_at, number_at, settings_at, step_input_at, cut_for, record_at, read_of, header_for, header_of};
 ghost use Rattle.card.specs.Chain.{records};
 
 use crate::bytes::{f32_at, u16_at};
 use crate::kind::Kind;
 use crate::refusal::CardRefusal;
-use joined::call::{Call, StepInput, airspeed_by, requested_by};
+use joined::call::{Call, StepInput};
 use joined::joined::Joined;
 use joined::machine::Airframe;
-use joined::settings::Settings;
-use machines::{ModeRefusal, VehicleState};
-use numbers::vector::{Quaternion, Vec2, Vec3};
+use joined::settings::{Numbers, Settings};
+use machines::ModeRefusal;
 
 // Record i of a card.
+#[tactic(auto, using(crate::proofs::Laws::Parts::part_at))]
 pub(crate) fn record_part(card: &[u8], i: usize) -> &[u8; 80]
     requires { i < records card.now }
     ensures { result.now ≡ record_part card.now i }
@@ -44,76 +45,33 @@ pub(crate) fn next_of(bytes: &[u8; 80]) -> usize
     usize::from(u16_at(bytes, 2))
 }
 
-// Number k of a record. Numbers 1 to 19 have a place.
-fn number_of(bytes: &[u8; 80], k: usize) -> f32
-    requires { k < 20 }
-    ensures { result ≡ number_at bytes.now 0 k }
-{
-    f32_at(bytes, 4 * k)
+// A record's numbers: 1 to 19 have a place, and past it there are zeros.
+#[derive(Drop)]
+struct Placed<'a>(&'a [u8; 80]);
+
+impl Numbers for Placed<'_> {
+    ghost number_by = { λ it k. if ltb k 20 then number_at it.0.now 0 k else zero32 };
+
+    fn number(&self, k: usize) -> f32 {
+        let bytes = self.0;
+        if k >= 20 { 0.0 } else { f32_at(bytes, 4 * k) }
+    }
 }
 
 // A record's numbers as settings.
+#[tactic(auto, unfolding(joined::specs::Calls::settings_by))]
 fn settings_of(bytes: &[u8; 80]) -> Settings
     ensures { result ≡ settings_at bytes.now 0 }
 {
-    Settings {
-        n1: number_of(bytes, 1),
-        n2: number_of(bytes, 2),
-        n3: number_of(bytes, 3),
-        n4: number_of(bytes, 4),
-        n5: number_of(bytes, 5),
-        n6: number_of(bytes, 6),
-        n7: number_of(bytes, 7),
-        n8: number_of(bytes, 8),
-        n9: number_of(bytes, 9),
-        n10: number_of(bytes, 10),
-        n11: number_of(bytes, 11),
-        n12: number_of(bytes, 12),
-        n13: number_of(bytes, 13),
-        n14: number_of(bytes, 14),
-        n15: number_of(bytes, 15),
-        n16: number_of(bytes, 16),
-        n17: number_of(bytes, 17),
-    }
-}
-
-// What a step is told of the vehicle.
-fn vehicle_of(bytes: &[u8; 80]) -> VehicleState
-    ensures { result ≡ vehicle_at bytes.now 0 }
-{
-    VehicleState {
-        z_m: number_of(bytes, 2),
-        velocity_mps: Vec3 {
-            x: number_of(bytes, 3),
-            y: number_of(bytes, 4),
-            z: number_of(bytes, 5),
-        },
-        acceleration_mps2: Vec2 {
-            x: number_of(bytes, 6),
-            y: number_of(bytes, 7),
-        },
-        attitude: Quaternion {
-            w: number_of(bytes, 8),
-            x: number_of(bytes, 9),
-            y: number_of(bytes, 10),
-            z: number_of(bytes, 11),
-        },
-        airspeed: airspeed_by(option_of(bytes), number_of(bytes, 12)),
-    }
+    Settings::of(&Placed(bytes))
 }
 
 // What a step is told.
+#[tactic(auto, unfolding(joined::specs::Calls::step_input_by, joined::specs::Calls::vehicle_by))]
 fn step_input_of(bytes: &[u8; 80]) -> StepInput
     ensures { result ≡ step_input_at bytes.now 0 }
 {
-    StepInput {
-        dt: number_of(bytes, 1),
-        requested: requested_by(option_of(bytes)),
-        state: vehicle_of(bytes),
-        entry_tilt_rad: number_of(bytes, 13),
-        bank_rad: number_of(bytes, 14),
-        demand: number_of(bytes, 15),
-    }
+    StepInput::of(option_of(bytes), &Placed(bytes))
 }
 
 // A record of kind 3 with this option: a cut, for the reason of that number.
@@ -129,7 +87,7 @@ pub(crate) fn call_of(bytes: &[u8; 80]) -> Option<Call>
 {
     let option = option_of(bytes);
     match kind_of(bytes)? {
-        Kind::Prime => (option == 0).then_some(Call::Prime(number_of(bytes, 2))),
+        Kind::Prime => (option == 0).then_some(Call::Prime(Placed(bytes).number(2))),
         Kind::Step => (option <= 3).then_some(Call::Step(step_input_of(bytes))),
         Kind::Cut => cut_for(option),
         Kind::Settings => (option == 0).then_some(Call::Settings(settings_of(bytes))),
@@ -138,6 +96,7 @@ pub(crate) fn call_of(bytes: &[u8; 80]) -> Option<Call>
 }
 
 // The call that record i of any bytes is; an index past the card's whole records names no call, nor does a header.
+#[tactic(auto, using(crate::proofs::Laws::Parts::part_at, crate::proofs::Laws::Parts::record_in), unfolding(crate::specs::Format::read_of))]
 pub fn read_record(card: &[u8], i: usize) -> Option<Call>
     ensures { result ≡ read_of card.now i }
 {

@@ -17,7 +17,7 @@ pub enum CardRefusal {
 }
 
 impl CardRefusal {
-    // The number of document 01, section 9.
+    // The number of document 01, section 9. A method, and no `From`: its name says which of the papers' numbers it is.
     pub fn number(self) -> u8
         ensures { result ≡ card_refusal_of self }
     {
@@ -31,7 +31,7 @@ impl CardRefusal {
         }
     }
 
-    // The bad setting's field, from 1; 0 for the other refusals.
+    // The bad setting's field, from 1; 0 for the other refusals. `WriteRefusal` has the same: a trait for both would be longer than the two.
     pub fn field(self) -> u8
         ensures { result ≡ card_field_of self }
     {

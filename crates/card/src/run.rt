@@ -31,6 +31,7 @@ fn run_records(card: &[u8], out: &mut [u8], count: usize) -> usize
 
 // Checks a card and runs it: the transcript goes to the start of `out`, and the rest of `out` stays. Hands back the transcript's length.
 // There is room for any: a transcript has at most 799 lines of at most 40 bytes and an end of at most 8.
+#[tactic(auto, using(crate::proofs::Laws::Lines::card_long))]
 pub fn run(card: &[u8], marks: &mut [u8], out: &mut [u8; 32_000]) -> usize
     ensures runs { Runs (run_of card.now marks.old out.old) result marks.new out.new }
     ensures upper_bound { result ≤ length out.new }

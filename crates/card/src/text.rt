@@ -16,6 +16,7 @@ use std::marker::Model;
 
 // A line as far as it is written; none is longer than 40 bytes.
 // Its words are not written by `write!` and `Display`: what those leave is said only where they give `Ok`, and the clause `runs` of `run` says what every byte is.
+// Fixed memory, so no `String`; the kit's `ArrayVec<u8, 40>` answers a `Result` at each addition, and to unwrap it asks for the same room.
 #[derive(Drop)]
 pub(crate) struct Text {
     bytes: [u8; 40],
@@ -44,6 +45,7 @@ fn hex_digit(n: u32) -> u8
     }
 }
 
+// Each method says how much room it needs: the number is its own, so no type says it for all.
 impl Text {
     // Nothing yet.
     fn new() -> Text
@@ -71,6 +73,7 @@ impl Text {
     }
 
     // Adds a number's bits in eight hexadecimal digits, and what stands after them.
+    #[tactic(auto, unfolding(crate::specs::Text::hex_of))]
     fn bits(&mut self, x: f32, after: u8)
         requires { length self.old + 9 ≤ 40 }
         ensures added { self.new ≡ self.old ++ hex_of (bits_of x) ++ after ∷ [] }
@@ -91,6 +94,7 @@ impl Text {
     }
 
     // Adds a number below 1000 in decimal digits, and what stands after it.
+    #[tactic(auto, unfolding(crate::specs::Text::decimal_of))]
     fn decimal(&mut self, n: usize, after: u8)
         requires { (length self.old + 4 ≤ 40) × (n < 1000) }
         ensures added { self.new ≡ self.old ++ decimal_of n ++ after ∷ [] }
@@ -111,6 +115,7 @@ impl Text {
     }
 
     // Adds 1 or 0, and what stands after it.
+    #[tactic(auto, unfolding(crate::specs::Text::decimal_of))]
     fn flag(&mut self, on: bool, after: u8)
         requires { length self.old + 2 ≤ 40 }
         ensures added { self.new ≡ self.old ++ decimal_of (flag_of on) ++ after ∷ [] }
@@ -164,7 +169,7 @@ impl Text {
         self.line_end(line.report, line.thrust, line.pitch_rad);
     }
 
-    // Adds a refusal's number, and the field after a 3, at the end of a line.
+    // Adds a refusal's number, and the field after a 3, at the end of a line. Of numbers: refusals of two types come here, and `refusal_words` speaks of the numbers.
     fn refusal(&mut self, number: u8, field: u8)
         requires { length self.old + 8 ≤ 40 }
         ensures { self.new ≡ self.old ++ spaced (refusal_words number field) }

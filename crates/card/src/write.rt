@@ -21,7 +21,7 @@ pub enum WriteRefusal {
 }
 
 impl WriteRefusal {
-    // The number of document 02, and the header's own.
+    // The number of document 02, and the header's own. A method, and no `From`: its name says which of the papers' numbers it is.
     pub fn number(self) -> u8
         ensures { result ≡ write_refusal_of self }
     {
@@ -101,6 +101,7 @@ fn put_card(out: &mut [u8], airframe: Airframe, s: Settings, calls: &[Call]) -> 
 }
 
 // Writes the card of some calls to the start of `out`, whose other bytes stay: how many bytes it has, or a refusal; a refused list writes none.
+#[tactic(auto, unfolding(crate::specs::Writer::write_of))]
 pub fn write(
     airframe: Airframe,
     settings: Settings,

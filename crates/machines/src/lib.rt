@@ -144,7 +144,7 @@ pub fn report_number(refusal: Option<ModeRefusal>) -> u8
 }
 
 impl InputRefusal {
-    // The number of document 01, section 9.
+    // The number of document 01, section 9. A method here and below, and no `From`, as above.
     pub fn number(self) -> u8
         ensures { result ≡ refusal_of self }
     {

@@ -84,6 +84,7 @@ impl TransitionConfig {
     pub fn validate(self) -> Result<(), InputRefusal>
         ensures { result ≡ transition_validity self }
     {
+        // field by field, here and below: the fields have names of their own (document 01, section 2)
         let settings = [
             self.forward_rate_radps,
             self.forward_done_rad,

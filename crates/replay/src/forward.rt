@@ -41,7 +41,7 @@ impl TryFrom<u8> for Forward {
     }
 }
 
-// The attitude of numbers 2 to 5.
+// The attitude of numbers 2 to 5. Field by field, here and below: each command's numbers have names of their own, the Rust's.
 fn attitude(record: &Record) -> AttitudeSetpoint {
     let [roll_rad, pitch_rad, heading_rad, thrust] = numbers::<4>(record, 2);
     AttitudeSetpoint {
@@ -100,7 +100,7 @@ fn blend(record: &Record) -> BlendSetpoint {
     }
 }
 
-// The setpoint of an option, 0 to 5.
+// The setpoint of an option, 0 to 5. The option is read here alone, so it has no type of its own.
 fn setpoint(record: &Record) -> Setpoint {
     match record.option() {
         0 => Setpoint::Attitude(attitude(record)),

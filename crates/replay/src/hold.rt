@@ -11,7 +11,7 @@ use records::words::{Bits, Dash};
 use std::fmt;
 use std::fmt::Display;
 
-// The flags of an option.
+// The flags of an option. Bits, and no type: the option is a byte of the list, read here alone.
 const FALLEN_BACK: u8 = 8;
 
 const VELOCITY: u8 = 16;
@@ -30,7 +30,7 @@ fn has_flag(record: &Record, flag: u8) -> bool {
     record.option() & flag != 0
 }
 
-// The attitude of numbers 4 to 7.
+// The attitude of numbers 4 to 7. Field by field, here and below: each command's numbers have names of their own, the Rust's.
 fn attitude(record: &Record) -> AttitudeCommand {
     let [throttle, roll, pitch, yaw] = numbers::<4>(record, 4);
     AttitudeCommand {
@@ -85,7 +85,7 @@ fn absolute_rate(record: &Record) -> AbsoluteRateCommand {
     }
 }
 
-// The input of an option, 0 to 5 without its flags.
+// The input of an option, 0 to 5 without its flags. The option is read here alone, so it has no type of its own.
 fn input(record: &Record) -> ControlInput {
     match record.option() % 8 {
         0 => ControlInput::Attitude(attitude(record)),

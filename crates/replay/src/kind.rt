@@ -21,7 +21,7 @@ pub(crate) enum Kind {
     Quadplane(MachineCall),
 }
 
-// Why a record has no answer: it is no call, or its call is turned down.
+// Why a record has no answer: it is no call, or its call is turned down. No `Option`: each case has its text.
 #[derive(Clone, Copy, Debug, PartialEq, Eq)]
 pub(crate) enum NoAnswer {
     Unknown,

@@ -33,11 +33,7 @@ pub(crate) struct Numbers<const N: usize>(pub(crate) [f32; N]);
 
 impl<const N: usize> Display for Numbers<N> {
     fn fmt<W: fmt::Write>(&self, f: &mut fmt::Formatter<W>) -> fmt::Result {
-        for (i, &number) in self.0.iter().enumerate() {
-            let space = if i == 0 { "" } else { " " };
-            write!(f, "{space}{}", Bits(number))?;
-        }
-        Ok(())
+        f.write_joined(self.0.iter().map(|&number| Bits(number)), " ")
     }
 }
 

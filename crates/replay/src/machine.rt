@@ -44,7 +44,7 @@ impl MachineCall {
     }
 }
 
-// Either machine, with the settings and the vehicle of a record.
+// Either machine, with the settings and the vehicle of a record. Each impl names its machine's own methods; `machines` has no trait for them, and lift.rt says why.
 pub(crate) trait Machine: Copy {
     fn made(record: &Record) -> Result<Self, InputRefusal>;
 

@@ -78,9 +78,7 @@ pub(crate) fn still() -> VehicleState {
 }
 
 // The horizontal velocity of two numbers, from number i on.
-pub(crate) fn horizontal(record: &Record, i: usize) -> Vec3
-    requires { i < 19 }
-{
+pub(crate) fn horizontal(record: &Record, i: usize) -> Vec3 {
     let Vec2 { x, y } = record.vec2(i);
     Vec3 { x, y, z: 0.0 }
 }

@@ -5,7 +5,7 @@
 use card::run::run;
 use std::io::{Read, Write};
 
-// Runs a card and writes its transcript.
+// Runs a card and writes its transcript. The runner has one like it, which says what fails; here nothing is said, so they are two.
 fn run_card<W: Write>(stdout: &mut W, card: &[u8]) {
     let mut marks = [0u8; 800];
     let mut out = [0u8; 32_000];
@@ -16,7 +16,7 @@ fn run_card<W: Write>(stdout: &mut W, card: &[u8]) {
 // Takes the next card, if there is one.
 fn take_card<R: Read, W: Write>(stdin: &mut R, stdout: &mut W) -> Option<()> {
     let length = streams::read_u32(stdin)?;
-    let mut card = streams::large_buffer();
+    let mut card = streams::buffer::<65_536>();
     let n = streams::read_start(stdin, &mut card, length)?;
     run_card(stdout, &card[..n]);
     Some(())

@@ -51,7 +51,7 @@ fn entered(start: Joined, input: StepInput) -> Update<Joined, Line>
     Update { state, answer }
 }
 
-// The machine of a header: kind 5 a tailsitter's, any other a quadplane's.
+// The machine of a header: kind 5 a tailsitter's, any other a quadplane's. By the number, as the first record may have any kind.
 fn made(record: &Record) -> Result<Joined, InputRefusal> {
     let airframe = match record.kind() {
         5 => Airframe::Tailsitter,

@@ -5,7 +5,7 @@ use records::words::{Bits, Step};
 use std::fmt;
 use std::fmt::Display;
 
-// What a record that is not refused answers: a new machine, or a line.
+// What a record that is not refused answers: a new machine, or a line. No `Option`: each case has its text.
 #[derive(Clone, Copy)]
 pub(crate) enum Shown {
     New,

@@ -5,45 +5,33 @@
 
 use card::chain::check;
 use card::refusal::CardRefusal;
+use machines::InputRefusal;
+use std::fmt::Display;
 use std::io::{Read, Write};
+use std::{fmt, io};
 
-// Writes a refusal: its number, and the field after a 3.
-fn print_refusal<W: Write>(stdout: &mut W, why: CardRefusal) {
-    streams::write_all(stdout, b"card ");
-    streams::print_decimal(stdout, u64::from(why.number()));
-    if why.number() == 3 {
-        streams::write_all(stdout, b" ");
-        streams::print_decimal(stdout, u64::from(why.field()));
+// What a check found, as its line says it: how many records are to be walked, or the refusal's number, with the field after a 3.
+#[derive(Clone, Copy)]
+struct Found(Result<usize, CardRefusal>);
+
+impl Display for Found {
+    fn fmt<W: fmt::Write>(&self, f: &mut fmt::Formatter<W>) -> fmt::Result {
+        match self.0 {
+            Ok(count) => write!(f, "walk {count}"),
+            Err(CardRefusal::Header(InputRefusal::Setting(field))) => write!(f, "card 3 {field}"),
+            Err(why) => write!(f, "card {}", why.number()),
+        }
     }
 }
 
-// Writes how many records are to be walked.
-fn print_walk<W: Write>(stdout: &mut W, count: usize) {
-    streams::write_all(stdout, b"walk ");
-    streams::print_decimal(stdout, count as u64);
-}
-
-// Writes what a check found.
-fn print_checked<W: Write>(stdout: &mut W, checked: Result<usize, CardRefusal>) {
-    match checked {
-        Ok(count) => print_walk(stdout, count),
-        Err(why) => print_refusal(stdout, why),
-    }
-}
-
-// Writes all bytes of the marks, each in two digits.
-fn print_marks<W: Write>(stdout: &mut W, marks: &[u8]) {
+// Checks a card with these marks, and writes the line: what was found, and each mark in two digits.
+fn check_card<W: Write>(stdout: &mut W, card: &[u8], marks: &mut [u8]) -> io::Result<()> {
+    let found = Found(check(card, marks));
+    write!(stdout, "{found} marks=")?;
     for mark in marks {
-        streams::print_hex(stdout, u64::from(*mark), 2);
+        write!(stdout, "{mark:02x}")?;
     }
-}
-
-// Checks a card with these marks, and writes the line.
-fn check_card<W: Write>(stdout: &mut W, card: &[u8], marks: &mut [u8]) {
-    print_checked(stdout, check(card, marks));
-    streams::write_all(stdout, b" marks=");
-    print_marks(stdout, marks);
-    streams::write_all(stdout, b"\n");
+    writeln!(stdout)
 }
 
 // Takes the next check, if there is one.
@@ -52,10 +40,11 @@ fn take_check<R: Read, W: Write>(stdin: &mut R, stdout: &mut W, card: &mut [u8])
     let length = streams::read_u32(stdin)?;
     let lent = streams::read_u32(stdin)?;
     streams::read_start(stdin, card, fresh)?;
-    let mut marks = streams::buffer();
+    let mut marks = streams::buffer::<4096>();
     let n = streams::read_start(stdin, &mut marks, lent)?;
     let size = card.len().min(length as usize);
-    check_card(stdout, &card[..size], &mut marks[..n]);
+    // a line that cannot be written is left out
+    let _ = check_card(stdout, &card[..size], &mut marks[..n]);
     Some(())
 }
 
@@ -63,7 +52,7 @@ fn take_check<R: Read, W: Write>(stdin: &mut R, stdout: &mut W, card: &mut [u8])
 fn main(rt: HostRuntime) {
     let mut stdin = rt.stdin();
     let mut stdout = rt.stdout();
-    let mut card = streams::large_buffer();
+    let mut card = streams::buffer::<65_536>();
     for _ in 0..u64::MAX {
         if take_check(&mut stdin, &mut stdout, &mut card).is_none() {
             return;

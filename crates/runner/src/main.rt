@@ -15,7 +15,7 @@ fn read_card<R: Read>(stdin: &mut R, card: &mut [u8]) -> Input
     streams::read_input(stdin, card)
 }
 
-// Writes a text, or says why it cannot.
+// Writes a text, or says why it cannot. The writer has the same but for the name that it says: a function of `streams` for both would take that name, and spare no line.
 fn put<W: Write, E: Write>(stdout: &mut W, stderr: &mut E, text: &[u8]) {
     if let Err(error) = stdout.write_all(text) {
         streams::fail(stderr, b"runner: standard output", error);

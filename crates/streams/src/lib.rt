@@ -20,21 +20,14 @@ pub struct Input {
     pub error: Option<io::Error>,
 }
 
-// 4,096 zeros. The `ensures` gives only the length, which lending the array as a slice needs.
-pub fn buffer() -> [u8; 4096]
-    ensures { 4096 ≡ length result }
+// N zeros. The `ensures` gives only the length: that the zeros are so many is all that lending them needs, and the check does not count them one by one.
+pub fn buffer<const N: usize>() -> [u8; N]
+    ensures { N ≡ length result }
 {
-    [0; 4096]
+    [0; N]
 }
 
-// 65,536 zeros.
-pub fn large_buffer() -> [u8; 65536]
-    ensures { 65536 ≡ length result }
-{
-    [0; 65536]
-}
-
-// Brings a length into the bounds of buf: 0 where it is negative, and never more than buf's length.
+// Brings a length into the bounds of buf: 0 where it is negative, and never more than buf's length. An `isize`: its promise and the edit count_too_long_is_none speak of one.
 pub fn count(got: isize, buf: &[u8]) -> usize
     ensures in_bounds { IsPrefixLen result buf.now }
     ensures value { result ≡ clamp_len got (length buf.now) }
@@ -52,6 +45,7 @@ pub fn read_input<R: Read>(from: &mut R, buf: &mut [u8]) -> Input
     ensures bytes { Consumes (R.remaining from.old) (R.remaining from.new) (take result.length buf.new) }
     ensures end { result.length < length buf.new → result.error ≡ None → IsAtEnd (R.remaining from.new) }
 {
+    // a `while`: how far a turn goes on is the read's to say
     let mut done = 0;
     while done < buf.len() {
         match from.read(&mut buf[done..]) {
@@ -112,6 +106,7 @@ pub fn read_start<R: Read>(from: &mut R, buf: &mut [u8], n: u32) -> Option<usize
     Some(most)
 }
 
+// This and the two below answer a `bool`, and no `Result`: their promises and the edits write_nothing, decimal_in_hex and hex_without_zeros speak of it.
 // Writes all of buf and returns true, or returns false after a write that takes nothing or fails, when some of buf may have been written.
 pub fn write_all<W: Write>(to: &mut W, buf: &[u8]) -> bool
     ensures { IsTrue result → Appends (W.contents to.old) (W.contents to.new) buf.now }
@@ -133,7 +128,7 @@ pub fn print_hex<W: Write>(to: &mut W, n: u64, width: usize) -> bool
     write!(to, "{n:0width$x}").is_ok()
 }
 
-// Writes a line: what failed, as the caller names it, a colon and what the error says, of which 300 bytes are kept. A line that cannot be written is left out.
+// Writes a line, in four writes, as what is named are bytes, which `write!` does not take: what failed, as the caller names it, a colon and what the error says, of which 300 bytes are kept. A line that cannot be written is left out.
 pub fn fail<W: Write>(to: &mut W, what: &[u8], error: io::Error) {
     let text = InlineText::<300>::of(error);
     write_all(to, what);

@@ -1,4 +1,4 @@
-// The calls of a text, in fixed memory: no program here has a heap, which a `Vec` needs.
+// The calls of a text, in fixed memory: no program here has a heap, which a `Vec` needs, and the kit's `ArrayVec` begins from a `Default`, which `Call` has not.
 ghost use Rattle.std.specs.Prelude.{◌≤◌};
 
 use joined::call::Call;

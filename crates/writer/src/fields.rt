@@ -74,7 +74,7 @@ impl Fields {
     }
 }
 
-// A tailsitter's settings: the defaults, but for those that the line names.
+// A tailsitter's settings: the defaults, but for those that the line names. Field by field here and below, as the fields of the two airframes have names of their own.
 fn tailsitter(fields: Fields) -> Settings {
     let d = TransitionConfig::defaults();
     Settings {

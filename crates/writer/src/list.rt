@@ -1,7 +1,7 @@
 // A list of texts, each with its length before it as a little-endian u32. A length past 1,048,577 counts as that; a text that is cut off ends the list.
 // For each goes to standard output its card, with its length before it likewise; or, if there is none, the length 0 and a line: which line of the text is wrong or refused, and the refusal.
 use crate::problem::{NoCard, Refusal, Why};
-use crate::text::{text_buffer, write_text};
+use crate::text::{TEXT_ROOM, write_text};
 use card::write::WriteRefusal;
 use std::fmt;
 use std::io::{self, Read, Write};
@@ -48,7 +48,7 @@ fn put_text<W: Write>(stdout: &mut W, text: &[u8]) -> io::Result<()> {
 // Takes the next text; None at the end of the list.
 fn take_text<R: Read, W: Write>(stdin: &mut R, stdout: &mut W) -> Option<()> {
     let length = streams::read_u32(stdin)?;
-    let mut text = text_buffer();
+    let mut text = streams::buffer::<TEXT_ROOM>();
     let n = streams::read_start(stdin, &mut text, length)?;
     // What cannot be written is left out.
     let _ = put_text(stdout, &text[..n]);

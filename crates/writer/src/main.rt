@@ -16,9 +16,9 @@ mod text;
 use list::write_list;
 use std::env::{Env, FillError};
 use std::io::{Read, Write};
-use text::{text_buffer, write_text};
+use text::{TEXT_ROOM, write_text};
 
-// Writes a card, or says why it cannot.
+// Writes a card, or says why it cannot. Two writers, and no struct of them: `main` holds both, and a struct of two borrows is no plainer.
 fn put<W: Write, E: Write>(stdout: &mut W, stderr: &mut E, card: &[u8]) {
     if let Err(error) = stdout.write_all(card) {
         streams::fail(stderr, b"writer: standard output", error);
@@ -38,7 +38,7 @@ fn put_text<W: Write, E: Write>(stdout: &mut W, stderr: &mut E, text: &[u8]) {
 
 // Takes the text.
 fn write_one<R: Read, W: Write, E: Write>(stdin: &mut R, stdout: &mut W, stderr: &mut E) {
-    let mut text = text_buffer();
+    let mut text = streams::buffer::<TEXT_ROOM>();
     let input = streams::read_input(stdin, &mut text);
     let n = input.length;
     if let Some(error) = input.error {

@@ -117,7 +117,7 @@ impl Names {
             .find(|part| part.0.as_bytes() == name)
     }
 
-    // The name of the part at a place; none is empty.
+    // The name of the part at a place; every place that is asked for has one.
     pub(crate) fn name_at(self, place: usize) -> &'static str {
         self.parts()
             .iter()

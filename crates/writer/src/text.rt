@@ -11,12 +11,8 @@ use joined::call::Call;
 use joined::machine::Airframe;
 use joined::settings::Settings;
 
-// Room for the longest text, and a byte more, so that a longer one is noticed.
-pub(crate) fn text_buffer() -> [u8; 1_048_577]
-    ensures { 1048577 ≡ length result }
-{
-    [0; 1_048_577]
-}
+// The longest text has 1,048,576 bytes; a byte more, so that a longer one is noticed.
+pub(crate) const TEXT_ROOM: usize = 1_048_577;
 
 // The lines of a text that are left.
 #[derive(Clone, Copy, Debug)]

@@ -14,7 +14,7 @@ loop-option-preserved c =
     zip_turn c.args.options.now c.as_chunks.result.0.now c.loop-option.yielded _ _ c.next.new.self _ (search rules) (search rules) c.loop-option.yielded_by (c.in-Some.option, c.in-Some.numbers) c.in-Some.is
     c.next.ensures.steps in
     let s = told c.args.options.now c.args.numbers.now c.as_chunks.ensures.front (rw c.as_chunks.ensures.front_len at t.1) (t.2 0) (t.3 []) in
-    next c.loop-option.invariant t.0 (rw (c.step_of.ensures, s) at c.step-update.ensures) c.add_answer-sum.ensures (length-append c.loop-option.yielded _)
+    next c.loop-option.invariant t.0 (rw (c.of.ensures, s) at c.step-update.ensures) c.add_answer-sum.ensures (length-append c.loop-option.yielded _)
 
 pub returns : goal.returns
 returns c =

@@ -1,4 +1,4 @@
--- Before each turn the state and the sum are those after the steps so far. The measure is how many steps are left.
+-- Before each turn the state and the sum are those after the steps so far.
 use Rattle.std.proofs.Common.{length}
 use Rattle.bench.proofs.Laws.Stepping.{Stepping}
 use Rattle.bench.proofs.steps.Given as goal

@@ -19,7 +19,7 @@ use Rattle.card.specs.Format.{next_at, cut_for, record_at, is_known}
 use Rattle.card.specs.Chain.{records, member, follow, chain_of}
 use Rattle.card.specs.Text.{record_line}
 use Rattle.card.specs.Transcript.{with_call, calls_of, lines_of, run_lines}
-use Rattle.card.proofs.Laws.Cases.{impossible, follow_if}
+use Rattle.card.proofs.Laws.Cases.{follow_if}
 
 -- ---- the option of a cut is its reason's number (section 10)
 pub cut_by_number : (why : ModeRefusal) → cut_for (reason_of why) ≡ Some (call.Cut why)
@@ -54,7 +54,7 @@ known card = follow_known card (records card) [] (next_at card 0) tt
 -- ---- so there are as many calls as records passed
 one_more : (r : Option Call) (cs : List Call) → is_known r ≡ true → length (with_call r cs) ≡ suc (length cs)
 one_more (Some c) cs e = refl
-one_more None cs e = impossible cc
+one_more None cs e = cc
 
 length_calls : (card passed : List ℕ) → Known card passed → length (calls_of card passed) ≡ length passed
 length_calls card [] h = refl

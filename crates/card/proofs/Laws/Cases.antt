@@ -1,16 +1,11 @@
--- What several laws go by: the tests of a link and of a check, over any answers to them, and a case that cannot be. Assumes nothing.
+-- What several laws go by: the tests of a link and of a check, over any answers to them. Assumes nothing.
 use Rattle.std.specs.Prelude.{if◌then◌else◌, Ok, Err}
-use mathlib.Core.Path.{◌≡◌}
 use mathlib.Core.Bool.{Bool}
 use mathlib.Core.List.{List}
 use Prim.Native.Nat.{ℕ}
-use native.Mathlib.Omega.{arith}
 use lib.ListN.{length}
 use Rattle.card.specs.Chain.{Chain, stopped, Outcome}
 use Rattle.card.specs.declared.refusal.CardRefusal.TheVariants as refusal
-
-pub impossible : {X : Type 0} → ◌≡◌ {A = ℕ} 0 1 → X
-impossible e = let none : ⊥ = omega arith in absurd none
 
 -- `follow` at a link, with `on` the chain after it
 abbrev pub follow_if : Bool → Bool → Bool → Bool → List ℕ → Chain → Chain

@@ -15,7 +15,7 @@ use Rattle.card.specs.Format.{record_at, header_of}
 use Rattle.card.specs.Chain.{whole, records, outcome_by, outcome_of}
 use Rattle.card.specs.Text.{hex_of, decimal_of}
 use Rattle.card.specs.Transcript.{transcript_by, transcript_of}
-use Rattle.card.proofs.Laws.Cases.{impossible, outcome_if}
+use Rattle.card.proofs.Laws.Cases.{outcome_if}
 use Rattle.card.specs.declared.refusal.CardRefusal.{CardRefusal}
 use Rattle.joined.specs.declared.joined.Joined.{Joined}
 
@@ -91,8 +91,8 @@ same_answer card m m' = go (leb (records card) (length m)) (leb (records card) (
     go true true true x e = by x
     go false false true x e = refl
     go b b' false x e = refl
-    go true false true x e = impossible cc
-    go false true true x e = impossible cc
+    go true false true x e = cc
+    go false true true x e = cc
 
 nine_records : records example_card ≡ 9
 unfolding example_card

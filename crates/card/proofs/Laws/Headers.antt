@@ -17,7 +17,6 @@ use Rattle.joined.proofs.Laws.Answers.{of_settings, new_three}
 use Rattle.card.specs.Format.{kind_at, option_at, settings_at, header_for, header_of}
 use Rattle.card.specs.CardRefusals.{card_refusal_of}
 use Rattle.card.specs.declared.refusal.CardRefusal.TheVariants as refusal
-use Rattle.card.proofs.Laws.Cases.{impossible}
 
 -- ---- a making that is refused is refused with 3
 pub header_three : (a : Airframe) (s : Settings) (why : InputRefusal) → new_of a s ≡ Err why → card_refusal_of (refusal.Header why) ≡ 3
@@ -41,7 +40,7 @@ made_by card j e = go (eqb (option_at card 0) 0) (eqb (kind_at card 0) 5) (eqb (
   where
     by : (a : Airframe) (n : Result Joined InputRefusal) → new_of a (settings_at card 0) ≡ n → header_for n ≡ Ok j → Made card j
     by a (Ok k) is u = let same : k ≡ j = cc in record { airframe = a; new = rw same at is }
-    by a (Err w) is u = impossible cc
+    by a (Err w) is u = cc
 
     go : (b₁ b₂ b₃ : Bool)
         → (if b₁ then (if b₂ then header_for (new_of airframe.Tailsitter (settings_at card 0))
@@ -51,5 +50,5 @@ made_by card j e = go (eqb (option_at card 0) 0) (eqb (kind_at card 0) 5) (eqb (
         → Made card j
     go true true b₃ w = by airframe.Tailsitter (new_of airframe.Tailsitter (settings_at card 0)) refl w
     go true false true w = by airframe.Quadplane (new_of airframe.Quadplane (settings_at card 0)) refl w
-    go true false false w = impossible cc
-    go false b₂ b₃ w = impossible cc
+    go true false false w = cc
+    go false b₂ b₃ w = cc

@@ -11,7 +11,7 @@ use borrow.Author.Tests.{eqb-true, eqb-false, leb-false}
 use Rattle.card.specs.Format.{next_at, record_at, is_known}
 use Rattle.card.specs.Chain.{records, member, marked, Chain, follow, chain_of}
 use Rattle.card.specs.declared.refusal.CardRefusal.TheVariants as refusal
-use Rattle.card.proofs.Laws.Cases.{impossible, follow_if}
+use Rattle.card.proofs.Laws.Cases.{follow_if}
 use Rattle.card.proofs.Laws.Marks.{zeros, zeros_none, zeros_marked}
 
 fewer : {f : ℕ} (card passed : List ℕ) (link : ℕ) → zeros (marked (records card) passed) < suc f → eqb link 0 ≡ false → leb (records card) link ≡ false → member link passed ≡ false
@@ -65,7 +65,7 @@ one_more card passed link inside e₁ e₂ i = go (eqb i link) refl
     go false e h = inside i h
 
 differ : {X : Type 0} {b : Bool} → b ≡ true → b ≡ false → X
-differ t f = impossible cc
+differ t f = cc
 
 nine : (card : List ℕ) (f : ℕ) (passed : List ℕ) (link : ℕ) → link ≡ next_at card (last_of passed) → Inside card passed → zeros (marked (records card) passed) < f
     → NineExactly card (follow f card passed link)
@@ -81,10 +81,10 @@ nine card (suc f) passed link e inside h =
         → (Inside card (link ∷ passed) → zeros (marked (records card) (link ∷ passed)) < f → NineExactly card (follow f card (link ∷ passed) (next_at card link)))
         → eqb link 0 ≡ b₁ → leb (records card) link ≡ b₂ → member link passed ≡ b₃
         → NineExactly card (follow_if b₁ b₂ b₃ b₄ passed (follow f card (link ∷ passed) (next_at card link)))
-    go true b₂ b₃ b₄ ih e₁ e₂ e₃ = record { only = λ a. impossible cc; always = λ m. differ e₁ (inside link (here m)).0 }
-    go false true b₃ b₄ ih e₁ e₂ e₃ = record { only = λ a. impossible cc; always = λ m. differ e₂ (inside link (here m)).1 }
+    go true b₂ b₃ b₄ ih e₁ e₂ e₃ = record { only = λ a. cc; always = λ m. differ e₁ (inside link (here m)).0 }
+    go false true b₃ b₄ ih e₁ e₂ e₃ = record { only = λ a. cc; always = λ m. differ e₂ (inside link (here m)).1 }
     go false false true b₄ ih e₁ e₂ e₃ = record { only = λ a. rw e at e₃; always = λ m. refl }
-    go false false false false ih e₁ e₂ e₃ = record { only = λ a. impossible cc; always = λ m. differ (here m) e₃ }
+    go false false false false ih e₁ e₂ e₃ = record { only = λ a. cc; always = λ m. differ (here m) e₃ }
     go false false false true ih e₁ e₂ e₃ = ih (one_more card passed link inside e₁ e₂) (fewer card passed link h e₁ e₂ e₃)
 
 pub nine_exactly : (card : List ℕ) → 0 < records card → NineExactly card (chain_of card)

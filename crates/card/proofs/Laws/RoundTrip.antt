@@ -75,12 +75,15 @@ module _ (card p b q : List ℕ) (i : ℕ) (is : card ≡ p ++ (b ++ q)) (before
   unfolding u16_at
   link_back = let r : next % 256 + next / 256 * 256 ≡ next = omega arith in r
 
+  next_back : next_at card i ≡ next
+  next_back = sym (next_in card i) ∙ ap (λ (x : List ℕ). next_at x 0) part ∙ link_back
+
   pub holds : Holds card i next e
   holds =
       record {
         kind = sym (kind_in card i) ∙ ap (λ (x : List ℕ). kind_at x 0) part;
         option = sym (option_in card i) ∙ ap (λ (x : List ℕ). option_at x 0) part;
-        link = sym (next_in card i) ∙ ap (λ (x : List ℕ). next_at x 0) part ∙ link_back;
+        link = next_back;
         words = λ j l. sym (number_in card i (suc j) (omega arith)) ∙ ap (λ (x : List ℕ). number_at x 0 (suc j)) part ∙ ap float_of (word_back j l);
       }
 

@@ -19,7 +19,7 @@ use Rattle.card.specs.Text.{record_line, Written}
 use Rattle.card.specs.Transcript.{calls_of, run_lines}
 use Rattle.card.specs.declared.refusal.CardRefusal.{CardRefusal}
 use Rattle.card.specs.declared.refusal.CardRefusal.TheVariants as refusal
-use Rattle.card.proofs.Laws.Cases.{impossible, follow_if, outcome_if}
+use Rattle.card.proofs.Laws.Cases.{follow_if, outcome_if}
 use Rattle.card.proofs.Laws.Walk.{most}
 use Rattle.card.proofs.Laws.Lines.{answer_long}
 use Rattle.card.proofs.Laws.Written.{both}
@@ -28,7 +28,7 @@ use Rattle.card.proofs.Laws.Calls.{after_known, lines_known}
 module _ (card : List ℕ) (chain : Chain) (count : ℕ) (walk : chain.answer ≡ Ok count) where
   not_refused : {X : Type 0} (why : CardRefusal) (passed : List ℕ) → stopped (Err why) passed ≡ chain → X
   not_refused why passed e =
-      let r : Err why ≡ Ok count = ap (λ (x : Chain). x.answer) e ∙ walk in impossible cc
+      let r : Err why ≡ Ok count = ap (λ (x : Chain). x.answer) e ∙ walk in cc
 
   ended : (passed : List ℕ) → stopped (Ok (length passed)) passed ≡ chain → length passed ≡ count
   ended passed e =
@@ -160,6 +160,6 @@ found card m count e = go (whole (length card)) (leb (records card) (length m)) 
   where
     go : (b₁ b₂ : Bool) (h : Result Joined CardRefusal) → whole (length card) ≡ b₁ → header_of card ≡ h → Ok count ≡ (outcome_if b₁ b₂ (outcome_by h card m) m).answer → Found card count
     go true true (Ok j) l k w = record { whole_card = l; machine = j; header_joined = k; walk = sym w }
-    go true true (Err why) l k w = impossible cc
-    go true false h l k w = impossible cc
-    go false b₂ h l k w = impossible cc
+    go true true (Err why) l k w = cc
+    go true false h l k w = cc
+    go false b₂ h l k w = cc

@@ -2,19 +2,18 @@
 -- What is left of the chain, from here, is the whole card's chain; the links left are one more than the records not yet marked. Assumes nothing.
 use Rattle.std.specs.Prelude.{if◌then◌else◌, Option, Some, None, is_some, Result, Ok, Err}
 use mathlib.Core.Path.{◌≡◌, refl, sym, ap, ◌∙◌}
-use mathlib.Core.Bool.{Bool, true, false, ◌&&◌}
-use mathlib.Core.List.{List, [], ◌∷◌}
+use mathlib.Core.Bool.{Bool, true, false}
+use mathlib.Core.List.{List, [], ◌∷◌, ◌++◌}
 use Prim.Native.Nat.{ℕ, suc, ◌+◌, ◌<◌, ◌≤◌}
 use native.Mathlib.Numerals.{add-one}
 use native.Mathlib.Omega.{arith}
-use lib.Dec.{leb}
 use lib.ListN.{length, get_or, set, length-set}
-use borrow.Author.Tests.{eq-eqb, ne_eqb, le-leb, lt-leb, leb-true}
+use borrow.Author.Tests.{eq-eqb, ne_eqb, le-leb, lt-leb}
+use Rattle.std.proofs.lemmas.Bool.Decides.{nat_tests}
 use Rattle.joined.specs.declared.call.Call.{Call}
 use Rattle.card.specs.Format.{next_at, record_at, is_known}
 use Rattle.card.specs.Chain.{records, whole, member, marked, Chain, stopped, follow, chain_of}
 use Rattle.card.specs.declared.refusal.CardRefusal.TheVariants as refusal
-use Rattle.card.proofs.Laws.Cases.{impossible}
 use Rattle.card.proofs.Laws.Marks.{mark_at, zeros, zeros_set, zeros_le, zeros_none, zeros_marked}
 use Rattle.card.specs.declared.refusal.CardRefusal.{CardRefusal}
 
@@ -91,8 +90,13 @@ module _ {card m : List ℕ} {link count : ℕ} (g : Walking card m link count) 
         unmarked : get_or m link 0 ≡ 0
         unmarked = mark ∙ simp fresh
 
-        pub unknown : is_known (record_at card link) ≡ false → Shows card m (Err refusal.KindOrOption)
-        unknown b = stop (Err refusal.KindOrOption) (simp (ne_eqb _ _ on, lt-leb _ _ inside, fresh, b))
+        pub stops_unknown : is_known (record_at card link) ≡ false → Shows card m (Err refusal.KindOrOption)
+        stops_unknown b = stop (Err refusal.KindOrOption) (simp (ne_eqb _ _ on, lt-leb _ _ inside, fresh, b))
+
+        -- the same of marks with others behind them, which stay
+        pub unknown : (more : List ℕ) → is_known (record_at card link) ≡ false
+            → (Err refusal.KindOrOption ≡ (chain_of card).answer) × (m ++ more ≡ marked (records card) (chain_of card).passed ++ more)
+        unknown more b = let shown = stops_unknown b in (shown.0, ap (λ (l : List ℕ). l ++ more) shown.1)
 
         pub fewer : zeros (set m link 1) < zeros m
         fewer = omega (arith, zeros_set m link h unmarked)
@@ -109,16 +113,8 @@ module _ {card m : List ℕ} {link count : ℕ} (g : Walking card m link count) 
             }
 
 -- ---- a whole card has a header, and at most 800 records
-left : (a b : Bool) → (a && b) ≡ true → a ≡ true
-left true b e = refl
-left false b e = e
-
-right : (a b : Bool) → (a && b) ≡ true → b ≡ true
-right true b e = e
-right false b e = impossible cc
-
 pub least : (n : ℕ) → whole n ≡ true → 80 ≤ n
-least n h = leb-true 80 n (left (leb 80 n) _ h)
+least n h = grind (arith, nat_tests)
 
 pub most : (n : ℕ) → whole n ≡ true → n ≤ 64000
-most n h = leb-true n 64000 (left (leb n 64000) _ (right (leb 80 n) _ h))
+most n h = grind (arith, nat_tests)

@@ -2,7 +2,7 @@
 use Rattle.std.proofs.Common.{◌≡◌, ◌∙◌, ap}
 use Rattle.card.specs.Format.{next_at, record_at}
 use Rattle.card.proofs.Laws.Parts.{next_in, record_in}
-use Rattle.card.proofs.Laws.Walk.{start, again, unknown, fewer, turn, known_some}
+use Rattle.card.proofs.Laws.Walk.{start, again, stops_unknown, fewer, turn, known_some}
 use Rattle.card.proofs.chain.follow.Goals as goal
 
 pub loop-link-init : goal.loop-link-init
@@ -19,7 +19,7 @@ pub returns-then-is_none : goal.returns-then-is_none
 returns-then-is_none c =
     let card = c.args.card.now in
     let e = c.call_of.ensures ∙ ap (λ b. record_at b 0) c.record_part-here.ensures ∙ record_in card c.loop-link.link in
-    unknown c.loop-link.invariant c.loop-link-test.true c.if-link-marks.false c.if-marks-link-eq1.false (known_some e c.if-is_none.ensures)
+    stops_unknown c.loop-link.invariant c.loop-link-test.true c.if-link-marks.false c.if-marks-link-eq1.false (known_some e c.if-is_none.ensures)
 
 pub loop-link-smaller : goal.loop-link-smaller
 loop-link-smaller c = fewer c.loop-link.invariant c.loop-link-test.true c.if-link-marks.false c.if-marks-link-eq1.false

@@ -12,7 +12,7 @@ pub returns-in-Prime : goal.returns-in-Prime
 returns-in-Prime c =
     let b = c.args.bytes.now in
     let h = told b (said_by b) (said b) c.kind_of.ensures (c.in_ok-kind_of.was ∙ ap Some c.in-Prime.is) in
-    c.then_some.ensures ∙ some_if _ _ ∙ simp (c.number_of.ensures, c.option_of-option.ensures) h
+    c.then_some.ensures ∙ some_if _ _ ∙ simp (c.number.ensures, c.option_of-option.ensures) h
 
 pub returns-in-Step : goal.returns-in-Step
 returns-in-Step c =

@@ -1,7 +1,5 @@
 -- `card::run::run` meets its contract. Assumes nothing.
-use Rattle.std.proofs.Common.{◌∙◌, sym, ap, rules, arith, length, zero-add}
-use Rattle.card.specs.CardRefusals.{card_refusal_of, card_field_of}
-use Rattle.card.proofs.Laws.Lines.{card_long}
+use Rattle.std.proofs.Common.{◌∙◌, sym, rules, zero-add}
 use Rattle.card.proofs.Laws.Written.{at_start}
 use Rattle.card.proofs.Laws.SecondWalk.{found}
 use Rattle.card.proofs.run.run.Goals as goal
@@ -10,9 +8,6 @@ pub run_records-requires : goal.run_records-requires
 run_records-requires c =
     let f = found _ _ _ (sym c.in-Ok.is ∙ c.check.ensures.answers) in
     (f.whole_card, simp f.header_joined, f.walk, search rules)
-
-pub put-requires : goal.put-requires
-put-requires c = let long = ap length (c.as_bytes.ensures ∙ c.card_line.ensures) in omega (arith, long, card_long (card_refusal_of c.in-Err.why) (card_field_of c.in-Err.why), c.told-out)
 
 pub returns-in-Ok-clause-runs : goal.returns-in-Ok-clause-runs
 returns-in-Ok-clause-runs c =

@@ -2,7 +2,7 @@
 ghost use Rattle.std.specs.Prelude.{◌≡◌, ◌<◌, ltb, if◌then◌else◌};
 ghost use Rattle.numbers.specs.Numbers.{zero32};
 ghost use Rattle.joined.specs.Joined.{new_of};
-ghost use Rattle.card.specs.Format.{kind_by, record_part, kind_at, option_at, next_at, number_at, settings_at, step_input_at, cut_for, record_at, read_of, header_for, header_of};
+ghost use Rattle.card.specs.Format.{kind_by, record_part, kind_at, option_at, next_at, number_at, settings_at, vehicle_at, step_input_at, cut_for, record_at, read_of, header_for, header_of};
 ghost use Rattle.card.specs.Chain.{records};
 
 use crate::bytes::{f32_at, u16_at};
@@ -69,7 +69,8 @@ fn settings_of(bytes: &[u8; 80]) -> Settings
 // What a step is told.
 #[tactic(auto, unfolding(joined::specs::Calls::step_input_by, joined::specs::Calls::vehicle_by))]
 fn step_input_of(bytes: &[u8; 80]) -> StepInput
-    ensures { result ≡ step_input_at bytes.now 0 }
+    ensures input { result ≡ step_input_at bytes.now 0 }
+    ensures vehicle { result.state ≡ vehicle_at bytes.now 0 }
 {
     StepInput::of(option_of(bytes), &Placed(bytes))
 }
@@ -82,6 +83,8 @@ fn cut_for(option: u8) -> Option<Call>
 }
 
 // The call that a record after the header is; none if section 7 does not name its kind or option.
+// In line, so that the check, which asks only whether there is one, reads no number.
+#[inline(always)]
 pub(crate) fn call_of(bytes: &[u8; 80]) -> Option<Call>
     ensures { result ≡ record_at bytes.now 0 }
 {

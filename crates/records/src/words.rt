@@ -86,7 +86,7 @@ impl Display for Step {
     }
 }
 
-// The line of a call that is turned down: the refusal's number, and a setting's field.
+// The line of a call that is turned down: the refusal's number, and a setting's field. The spaces are parts of their own, so that each word is written by itself.
 #[derive(Clone, Copy, Debug, PartialEq, Eq)]
 pub struct Refused(pub InputRefusal);
 
@@ -95,8 +95,8 @@ impl Display for Refused {
 
     fn fmt<W: fmt::Write>(&self, f: &mut fmt::Formatter<W>) -> fmt::Result {
         match self.0 {
-            InputRefusal::Setting(field) => write!(f, "refused 3 {field}"),
-            why => write!(f, "refused {}", why.number()),
+            InputRefusal::Setting(field) => write!(f, "refused{}3{}{field}", ' ', ' '),
+            why => write!(f, "refused{}{}", ' ', why.number()),
         }
     }
 }

@@ -10,6 +10,7 @@ use records::record::Record;
 use records::words::{Bits, Dash};
 use std::fmt;
 use std::fmt::Display;
+use streams::Decimal;
 
 // The flags of an option. Bits, and no type: the option is a byte of the list, read here alone.
 const FALLEN_BACK: u8 = 8;
@@ -112,23 +113,33 @@ impl Display for Flown {
     fn fmt<W: fmt::Write>(&self, f: &mut fmt::Formatter<W>) -> fmt::Result {
         match self.0 {
             ControlInput::Attitude(a) => {
-                write!(f, "0 {}", Numbers([a.throttle, a.roll, a.pitch, a.yaw]))
+                write!(
+                    f,
+                    "{} {}",
+                    Decimal(0),
+                    Numbers([a.throttle, a.roll, a.pitch, a.yaw])
+                )
             }
             ControlInput::Rate(r) => {
                 let numbers = Numbers([r.throttle, r.roll_rate, r.pitch_rate, r.yaw_rate]);
-                write!(f, "1 {numbers}")
+                write!(f, "{} {numbers}", Decimal(1))
             }
             ControlInput::Waypoint(w) => show_waypoint(f, w),
             ControlInput::AbsoluteAttitude(a) => {
                 let numbers = Numbers([a.roll_rad, a.pitch_rad, a.heading_rad, a.thrust]);
-                write!(f, "3 {numbers}")
+                write!(f, "{} {numbers}", Decimal(3))
             }
             ControlInput::Land(l) => {
-                write!(f, "4 {}", Numbers([l.position_m.x, l.position_m.y]))
+                write!(
+                    f,
+                    "{} {}",
+                    Decimal(4),
+                    Numbers([l.position_m.x, l.position_m.y])
+                )
             }
             ControlInput::AbsoluteRate(r) => {
                 let numbers = Numbers([r.roll_radps, r.pitch_radps, r.yaw_radps, r.thrust]);
-                write!(f, "5 {numbers}")
+                write!(f, "{} {numbers}", Decimal(5))
             }
         }
     }
@@ -138,7 +149,8 @@ impl Display for Flown {
 fn show_waypoint<W: fmt::Write>(f: &mut fmt::Formatter<W>, w: WaypointCommand) -> fmt::Result {
     write!(
         f,
-        "2 {} {} {} {}",
+        "{} {} {} {} {}",
+        Decimal(2),
         Numbers([w.position_m.x, w.position_m.y]),
         Dash(w.velocity_mps.map(|v| Numbers([v.x, v.y]))),
         Numbers([w.altitude_m, w.cruise_speed_mps]),

@@ -7,6 +7,7 @@ use numbers::vector::Vec3;
 use records::words::{Bits, Dash, Step};
 use std::fmt;
 use std::fmt::Display;
+use streams::Decimal;
 
 // What a call answers.
 #[derive(Clone, Copy)]
@@ -41,13 +42,18 @@ impl Display for Line {
     fn fmt<W: fmt::Write>(&self, f: &mut fmt::Formatter<W>) -> fmt::Result {
         match *self {
             Line::New => write!(f, "new"),
-            Line::Field(field) => write!(f, "{field}"),
-            Line::Flag(on) => write!(f, "{}", u8::from(on)),
+            Line::Field(field) => write!(f, "{}", Decimal(u64::from(field))),
+            Line::Flag(on) => write!(f, "{}", Decimal(u64::from(on))),
             Line::Number(x) => write!(f, "{}", Bits(x)),
             Line::Maybe(x) => write!(f, "{}", Dash(x.map(Bits))),
             Line::Vector(v) => write!(f, "{}", Numbers([v.x, v.y, v.z])),
             Line::Split(split) => write!(f, "{}", Numbers([split.pitch_rad, split.thrust])),
-            Line::Thrust(thrust, active) => write!(f, "{} {}", Bits(thrust), u8::from(active)),
+            Line::Thrust(thrust, active) => write!(
+                f,
+                "{} {}",
+                Bits(thrust),
+                Decimal(u64::from(active))
+            ),
             Line::Settings(settings) => write!(f, "{}", Numbers(settings)),
             Line::Input(input) => write!(f, "{}", Flown(input)),
             Line::Step(step) => write!(f, "{}", Step(step)),

@@ -14,9 +14,8 @@ mod values;
 
 use kept::Kept;
 use records::record::Record;
-use std::io::Write;
 
-// Takes the records one after the other, and goes on where a line cannot be written. A proved loop has to end, and nothing says that the input does,
+// Takes the records one after the other, and goes on where a word of a line cannot be written. A proved loop has to end, and nothing says that the input does,
 // so it counts its turns up to a number that no run reaches.
 fn main(rt: HostRuntime) {
     let mut stdin = rt.stdin();
@@ -26,9 +25,9 @@ fn main(rt: HostRuntime) {
         let Some(record) = Record::read(&mut stdin) else {
             return;
         };
-        let _ = match kept.call(&record) {
-            Ok(line) => writeln!(stdout, "{line}"),
-            Err(why) => writeln!(stdout, "{why}"),
+        match kept.call(&record) {
+            Ok(line) => streams::print(&mut stdout, format_args!("{line}\n")),
+            Err(why) => streams::print(&mut stdout, format_args!("{why}\n")),
         };
     }
 }

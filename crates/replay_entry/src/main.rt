@@ -15,7 +15,6 @@ use joined::machine::Airframe;
 use machines::InputRefusal;
 use machines::answer::Update;
 use records::record::Record;
-use records::words::Refused;
 use show::Shown;
 use std::io::Write;
 
@@ -76,12 +75,12 @@ fn call(joined: &mut Joined, record: &Record) -> Result<Shown, InputRefusal> {
     Ok(Shown::Line(update.answer?))
 }
 
-// Writes a line. One that cannot be written is left out.
-fn write_line<W: Write>(stdout: &mut W, shown: Result<Shown, InputRefusal>) {
-    let _ = match shown {
-        Ok(shown) => writeln!(stdout, "{shown}"),
-        Err(why) => writeln!(stdout, "{}", Refused(why)),
-    };
+// Writes a line.
+fn write_line<W: Write>(stdout: &mut W, answer: Result<Shown, InputRefusal>) {
+    match answer {
+        Ok(shown) => show::answer(stdout, shown),
+        Err(why) => show::refused(stdout, why),
+    }
 }
 
 // Takes the records one after the other. A proved loop has to end, and nothing says that the input does,

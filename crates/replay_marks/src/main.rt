@@ -6,46 +6,53 @@
 use card::chain::check;
 use card::refusal::CardRefusal;
 use machines::InputRefusal;
-use std::fmt::Display;
 use std::io::{Read, Write};
-use std::{fmt, io};
 
-// What a check found, as its line says it: how many records are to be walked, or the refusal's number, with the field after a 3.
-#[derive(Clone, Copy)]
-struct Found(Result<usize, CardRefusal>);
-
-impl Display for Found {
-    fn fmt<W: fmt::Write>(&self, f: &mut fmt::Formatter<W>) -> fmt::Result {
-        match self.0 {
-            Ok(count) => write!(f, "walk {count}"),
-            Err(CardRefusal::Header(InputRefusal::Setting(field))) => write!(f, "card 3 {field}"),
-            Err(why) => write!(f, "card {}", why.number()),
+// Writes what a check found: how many records are to be walked, or the refusal's number, with the field after a 3.
+// This and `check_card` write word by word, by functions of `streams` whose contracts say the digits, and try each word whatever became of the one before: a `write!` ends at the first that fails.
+fn print_found<W: Write>(stdout: &mut W, found: Result<usize, CardRefusal>) {
+    match found {
+        Ok(count) => {
+            streams::write_all(stdout, b"walk ");
+            streams::print_decimal(stdout, count as u64);
+        }
+        Err(why) => {
+            streams::write_all(stdout, b"card ");
+            streams::print_decimal(stdout, u64::from(why.number()));
+            if let CardRefusal::Header(InputRefusal::Setting(field)) = why {
+                streams::write_all(stdout, b" ");
+                streams::print_decimal(stdout, u64::from(field));
+            }
         }
     }
 }
 
 // Checks a card with these marks, and writes the line: what was found, and each mark in two digits.
-fn check_card<W: Write>(stdout: &mut W, card: &[u8], marks: &mut [u8]) -> io::Result<()> {
-    let found = Found(check(card, marks));
-    write!(stdout, "{found} marks=")?;
+fn check_card<W: Write>(stdout: &mut W, card: &[u8], marks: &mut [u8]) {
+    print_found(stdout, check(card, marks));
+    streams::write_all(stdout, b" marks=");
     for mark in marks {
-        write!(stdout, "{mark:02x}")?;
+        streams::print_hex(stdout, u64::from(*mark), 2);
     }
-    writeln!(stdout)
+    streams::write_all(stdout, b"\n");
 }
 
-// Takes the next check, if there is one.
-fn take_check<R: Read, W: Write>(stdin: &mut R, stdout: &mut W, card: &mut [u8]) -> Option<()> {
-    let fresh = streams::read_u32(stdin)?;
-    let length = streams::read_u32(stdin)?;
-    let lent = streams::read_u32(stdin)?;
-    streams::read_start(stdin, card, fresh)?;
+// Reads so many marks and checks a card with them; None where the list ends before. Apart from `take_check`, which would fill their room with zeros twice.
+fn lend<R: Read, W: Write>(stdin: &mut R, stdout: &mut W, card: &[u8], lent: u32) -> Option<()> {
     let mut marks = streams::buffer::<4096>();
     let n = streams::read_start(stdin, &mut marks, lent)?;
-    let size = card.len().min(length as usize);
-    // a line that cannot be written is left out
-    let _ = check_card(stdout, &card[..size], &mut marks[..n]);
+    check_card(stdout, card, &mut marks[..n]);
     Some(())
+}
+
+// Takes the next check, if there is one. A number that is cut off counts as 0 where the last of the three comes all the same, as from a terminal.
+fn take_check<R: Read, W: Write>(stdin: &mut R, stdout: &mut W, card: &mut [u8]) -> Option<()> {
+    let fresh = streams::read_u32(stdin).unwrap_or(0);
+    let length = streams::read_u32(stdin).unwrap_or(0);
+    let lent = streams::read_u32(stdin)?;
+    streams::read_start(stdin, card, fresh)?;
+    let size = streams::count(length as isize, card);
+    lend(stdin, stdout, &card[..size], lent)
 }
 
 // A proved loop has to end, and nothing says that the input does (a `while let` has no measure), so it counts its turns up to a number that no run reaches.

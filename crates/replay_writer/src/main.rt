@@ -10,27 +10,36 @@ use joined::call::Call;
 use joined::machine::Airframe;
 use joined::settings::Settings;
 use machines::InputRefusal;
-use std::io::{self, Read, Write};
+use std::io::{Read, Write};
 
 // What stands before the calls of a list.
 #[derive(Clone, Copy)]
 struct Head {
     count: usize,
-    room: usize,
+    room: u32,
     given: usize,
     airframe: Airframe,
     settings: Settings,
 }
 
 // Writes the line of an answer: how many bytes the card has, or the number of a refusal, and the field after a 3.
-fn print_wrote<W: Write>(stdout: &mut W, wrote: Result<usize, WriteRefusal>) -> io::Result<()> {
+// Word by word, by functions of `streams` whose contracts say the digits, and each word is tried whatever became of the one before: a `write!` ends at the first that fails.
+fn print_wrote<W: Write>(stdout: &mut W, wrote: Result<usize, WriteRefusal>) {
     match wrote {
-        Ok(length) => writeln!(stdout, "wrote {length}"),
-        Err(WriteRefusal::Header(why @ InputRefusal::Setting(field))) => {
-            writeln!(stdout, "refused {} {field}", why.number())
+        Ok(length) => {
+            streams::write_all(stdout, b"wrote ");
+            streams::print_decimal(stdout, length as u64);
         }
-        Err(why) => writeln!(stdout, "refused {}", why.number()),
+        Err(why) => {
+            streams::write_all(stdout, b"refused ");
+            streams::print_decimal(stdout, u64::from(why.number()));
+            if let WriteRefusal::Header(InputRefusal::Setting(field)) = why {
+                streams::write_all(stdout, b" ");
+                streams::print_decimal(stdout, u64::from(field));
+            }
+        }
     }
+    streams::write_all(stdout, b"\n");
 }
 
 // The airframe of a header's kind. `bench` and replay_entry choose so too: one function for all would need a contract and an edit of its own, and be longer than the three.
@@ -49,20 +58,28 @@ fn next_call<R: Read>(stdin: &mut R) -> Call {
 }
 
 // Writes the card of a list to the lent bytes, and shows the answer and these bytes.
-fn write_card<W: Write>(stdout: &mut W, head: Head, calls: &[Call]) -> io::Result<()> {
+fn write_card<W: Write>(stdout: &mut W, head: Head, calls: &[Call]) {
     let mut lent = streams::buffer::<65_536>();
     lent.fill(165);
-    let lent = &mut lent[..head.room.min(65_536)];
+    let room = streams::count(head.room as isize, &lent);
+    let lent = &mut lent[..room];
     let wrote = write(head.airframe, head.settings, calls, lent);
-    print_wrote(stdout, wrote)?;
-    stdout.write_all(lent)
+    print_wrote(stdout, wrote);
+    streams::write_all(stdout, lent);
+}
+
+// The next of the numbers before a list. What is cut off of one counts as 0 where the header comes all the same, as from a terminal.
+fn next_number<R: Read>(stdin: &mut R) -> u32 {
+    let mut bytes = [0u8; 4];
+    streams::read_full(stdin, &mut bytes);
+    u32::from_le_bytes(bytes)
 }
 
 // What stands before the calls of the next list; None at the end of the input. A header's settings are read as those of a settings call, kind 4 with option 0.
 fn next_head<R: Read>(stdin: &mut R) -> Option<Head> {
-    let count = streams::read_u32(stdin)?;
-    let room = streams::read_u32(stdin)?;
-    let given = streams::read_u32(stdin)?;
+    let count = next_number(stdin);
+    let room = next_number(stdin);
+    let given = next_number(stdin);
     let mut header = [0u8; 80];
     if streams::read_full(stdin, &mut header) < 80 {
         return None;
@@ -75,22 +92,26 @@ fn next_head<R: Read>(stdin: &mut R) -> Option<Head> {
     };
     Some(Head {
         count: count as usize,
-        room: room as usize,
+        room,
         given: given as usize,
         airframe,
         settings,
     })
 }
 
-// Takes the next list; None at the end of the input. 800 calls stand for any more than 799.
-fn take_list<R: Read, W: Write>(stdin: &mut R, stdout: &mut W) -> Option<()> {
-    let head = next_head(stdin)?;
+// Reads the given calls and writes the list. 800 calls stand for any more than 799. Apart from `take_list`, which would make their room twice.
+fn take_calls<R: Read, W: Write>(stdin: &mut R, stdout: &mut W, head: Head) {
     let mut calls = [Call::Prime(0.0); 800];
     for call in calls.iter_mut().take(head.given.min(799)) {
         *call = next_call(stdin);
     }
-    // What cannot be written is left out.
-    let _ = write_card(stdout, head, &calls[..head.count.min(800)]);
+    write_card(stdout, head, &calls[..head.count.min(800)]);
+}
+
+// Takes the next list; None at the end of the input.
+fn take_list<R: Read, W: Write>(stdin: &mut R, stdout: &mut W) -> Option<()> {
+    let head = next_head(stdin)?;
+    take_calls(stdin, stdout, head);
     Some(())
 }
 

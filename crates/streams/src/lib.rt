@@ -2,14 +2,14 @@
 // No function here has a `requires`. A read that a signal interrupts before it moves a byte counts as one that failed; such a write is made again.
 #![tactic(auto)]
 
-ghost use Rattle.std.specs.Prelude.{◌≡◌, ◌<◌, length, min, take, IsTrue, IfSome, IsNone, None};
+ghost use Rattle.std.specs.Prelude.{◌≡◌, ◌<◌, length, min, take, IsTrue, IfSome, IsNone, Some, None};
 ghost use Rattle.std.specs.Int.{w32, to_le_bytes};
 ghost use Rattle.std.specs.Io.KnownBytes.{Appends, Consumes, IsAtEnd};
 ghost use Rattle.std.specs.Fmt.{decimal};
 ghost use Rattle.streams.specs.Counts.{ConsumesFewer, IsPrefixLen, clamp_len};
 ghost use Rattle.streams.specs.Digits.{hex_text};
 
-use std::fmt::InlineText;
+use std::fmt::{self, Display, Formatter, InlineText};
 use std::io;
 use std::io::{Read, Write};
 
@@ -126,6 +126,52 @@ pub fn print_hex<W: Write>(to: &mut W, n: u64, width: usize) -> bool
     ensures { IsTrue result → Appends (W.contents to.old) (W.contents to.new) (hex_text width n) }
 {
     write!(to, "{n:0width$x}").is_ok()
+}
+
+// A number as `{}` shows it, in decimal digits: what a line shows by `print` is said by contracts down to its digits.
+#[derive(Clone, Copy, Debug, PartialEq, Eq)]
+pub struct Decimal(pub u64);
+
+impl Display for Decimal {
+    ghost output = { λ it. Some (decimal it.0) };
+
+    fn fmt<W: fmt::Write>(&self, f: &mut Formatter<W>) -> fmt::Result {
+        write!(f, "{}", self.0)
+    }
+}
+
+// A writer as a `fmt::Write` that tries each part of a text, whatever became of the part before; and whether all parts so far were written.
+#[derive(Drop)]
+struct Tried<'a, W> {
+    inner: &'a mut W,
+    all: bool,
+}
+
+impl<W: Write> fmt::Write for Tried<'_, W> {
+    ghost write_str_gives = { λ s bs t. (t.inner.ghost_name ≡ s.inner.ghost_name)
+        × (IsTrue t.all → IsTrue s.all × Appends (W.contents s.inner.now) (W.contents t.inner.now) bs) };
+
+    fn write_str(&mut self, s: &str) -> fmt::Result {
+        if !write_all(self.inner, s.as_bytes()) {
+            self.all = false;
+        }
+        Ok(())
+    }
+}
+
+// Writes what a value shows, and returns what `write_all` does. Its parts are tried one after the other, whatever became of the part before; `write!` stops at the first that fails.
+pub fn print<W: Write, D: Display + Drop>(to: &mut W, shown: D) -> bool
+    ensures { IsTrue result → IfSome (D.output shown) (Appends (W.contents to.old) (W.contents to.new)) }
+{
+    let mut f = Formatter::new(Tried {
+        inner: to,
+        all: true,
+    });
+    let shows = f.write(shown).is_ok();
+    let Tried { inner, all } = f.into_inner();
+    // No effect at run time: the proof reads what `to` holds from it.
+    let _ = &*inner;
+    shows && all
 }
 
 // Writes a line, in four writes, as what is named are bytes, which `write!` does not take: what failed, as the caller names it, a colon and what the error says, of which 300 bytes are kept. A line that cannot be written is left out.

@@ -37,6 +37,28 @@ impl Write for Full {
     }
 }
 
+// Fails at the second write, and counts the bytes of the others.
+#[derive(Drop)]
+struct SecondFails {
+    calls: usize,
+    taken: usize,
+}
+
+impl Write for SecondFails {
+    fn write(&mut self, buf: &[u8]) -> io::Result<usize> {
+        self.calls = self.calls.saturating_add(1);
+        if self.calls == 2 {
+            return Err(io::Error::from(ErrorKind::BrokenPipe));
+        }
+        self.taken = self.taken.saturating_add(buf.len());
+        Ok(buf.len())
+    }
+
+    fn flush(&mut self) -> io::Result<()> {
+        Ok(())
+    }
+}
+
 #[test]
 fn counts(rt: HostRuntime) {
     let buf = [0u8; 3];
@@ -106,6 +128,20 @@ fn writes_numbers(rt: HostRuntime) -> Result<(), Fail> {
         to.as_slice(),
         b"0 18446744073709551615 000000af 1af".as_slice()
     );
+    Ok(())
+}
+
+#[test]
+fn tries_each_part(rt: HostRuntime) -> Result<(), Fail> {
+    let (first, second) = (12, 345);
+    let mut to = Vec::new(rt.alloc());
+    assert!(rt; print(&mut to, format_args!("{first} {second}\n")));
+    assert_eq!(rt; to.as_slice(), b"12 345\n".as_slice());
+    let mut failing = SecondFails { calls: 0, taken: 0 };
+    assert!(rt; !print(&mut failing, format_args!("{first} {second}\n")));
+    assert_eq!(rt; failing.calls, 4);
+    assert_eq!(rt; failing.taken, 6);
+    assert!(rt; !print(&mut Full, format_args!("{first}")));
     Ok(())
 }
 

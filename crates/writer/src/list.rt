@@ -3,55 +3,57 @@
 use crate::problem::{NoCard, Refusal, Why};
 use crate::text::{TEXT_ROOM, write_text};
 use card::write::WriteRefusal;
-use std::fmt;
-use std::io::{self, Read, Write};
+use std::io::{Read, Write};
 
-// The answer for a text without a card, without the words that say why.
-#[derive(Clone, Copy)]
-struct Answer<'a>(NoCard<'a>);
+// Writes a space and a number.
+fn put_number<W: Write>(stdout: &mut W, n: usize) {
+    streams::write_all(stdout, b" ");
+    streams::print_decimal(stdout, n as u64);
+}
 
-impl fmt::Display for Answer<'_> {
-    fn fmt<W: fmt::Write>(&self, f: &mut fmt::Formatter<W>) -> fmt::Result {
-        let line = self.0.line;
-        match self.0.why {
-            Why::Wrong(_) => write!(f, "line {line}"),
-            Why::Refused(
-                Refusal {
-                    why: WriteRefusal::Header(why),
-                    ..
-                },
-            ) => write!(f, "line {line} refused {} {}", why.number(), why.field()),
-            Why::Refused(Refusal { why, .. }) => write!(f, "line {line} refused {}", why.number()),
+// Writes the answer for a text without a card, without the words that say why.
+// Word by word, by functions of `streams` whose contracts say the digits, and each word is tried whatever became of the one before: a `write!` ends at the first that fails.
+fn put_no_card<W: Write>(stdout: &mut W, no_card: NoCard) {
+    streams::write_all(stdout, &[0; 4]);
+    streams::write_all(stdout, b"line");
+    put_number(stdout, no_card.line);
+    if let Why::Refused(Refusal { why, .. }) = no_card.why {
+        streams::write_all(stdout, b" refused");
+        put_number(stdout, usize::from(why.number()));
+        if let WriteRefusal::Header(_) = why {
+            put_number(stdout, usize::from(why.field()));
         }
     }
+    streams::write_all(stdout, b"\n");
 }
 
 // Writes a card with its length before it.
-fn put_card<W: Write>(stdout: &mut W, card: &[u8]) -> io::Result<()> {
+fn put_card<W: Write>(stdout: &mut W, card: &[u8]) {
     let length = u32::try_from(card.len()).unwrap_or(u32::MAX);
-    stdout.write_all(&length.to_le_bytes())?;
-    stdout.write_all(card)
+    streams::write_all(stdout, &length.to_le_bytes());
+    streams::write_all(stdout, card);
 }
 
 // Writes what comes of a text.
-fn put_text<W: Write>(stdout: &mut W, text: &[u8]) -> io::Result<()> {
+fn put_text<W: Write>(stdout: &mut W, text: &[u8]) {
     let mut out = [0u8; 64_000];
     match write_text(text, &mut out) {
         Ok(card) => put_card(stdout, card),
-        Err(no_card) => {
-            stdout.write_all(&[0; 4])?;
-            writeln!(stdout, "{}", Answer(no_card))
-        }
+        Err(no_card) => put_no_card(stdout, no_card),
     }
 }
 
 // Takes the next text; None at the end of the list.
 fn take_text<R: Read, W: Write>(stdin: &mut R, stdout: &mut W) -> Option<()> {
     let length = streams::read_u32(stdin)?;
+    take_bytes(stdin, stdout, length)
+}
+
+// Takes so many bytes as a text; None where the list ends before. Apart from `take_text`, which would fill its room with zeros before the length is read, and once more after it.
+fn take_bytes<R: Read, W: Write>(stdin: &mut R, stdout: &mut W, length: u32) -> Option<()> {
     let mut text = streams::buffer::<TEXT_ROOM>();
     let n = streams::read_start(stdin, &mut text, length)?;
-    // What cannot be written is left out.
-    let _ = put_text(stdout, &text[..n]);
+    put_text(stdout, &text[..n]);
     Some(())
 }
 

@@ -14,8 +14,10 @@ mod scan;
 mod text;
 
 use list::write_list;
+use problem::NoCard;
 use std::env::{Env, FillError};
 use std::io::{Read, Write};
+use streams::Decimal;
 use text::{TEXT_ROOM, write_text};
 
 // Writes a card, or says why it cannot. Two writers, and no struct of them: `main` holds both, and a struct of two borrows is no plainer.
@@ -30,8 +32,9 @@ fn put_text<W: Write, E: Write>(stdout: &mut W, stderr: &mut E, text: &[u8]) {
     let mut out = [0u8; 64_000];
     match write_text(text, &mut out) {
         Ok(card) => put(stdout, stderr, card),
-        Err(no_card) => {
-            let _ = writeln!(stderr, "writer: {no_card}");
+        Err(NoCard { line, why }) => {
+            let line = Decimal(line as u64);
+            streams::print(stderr, format_args!("writer: line {line}: {why}\n"));
         }
     }
 }
@@ -44,9 +47,9 @@ fn write_one<R: Read, W: Write, E: Write>(stdin: &mut R, stdout: &mut W, stderr:
     if let Some(error) = input.error {
         streams::fail(stderr, b"writer: standard input", error);
     } else if n > 1_048_576 {
-        let _ = writeln!(
+        streams::write_all(
             stderr,
-            "writer: the text is longer than 1,048,576 bytes, the most that is read"
+            b"writer: the text is longer than 1,048,576 bytes, the most that is read\n",
         );
     } else {
         put_text(stdout, stderr, &text[..n]);
@@ -74,9 +77,9 @@ fn main(rt: HostRuntime) {
     } else if !has_argument(&rt, 2) && is_list(&rt) {
         write_list(&mut stdin, &mut stdout);
     } else {
-        let _ = writeln!(
-            stderr,
-            "writer: the text of a card is read from standard input, and the card is written to standard output; the only argument is 'list', for many texts with their lengths before them"
+        streams::write_all(
+            &mut stderr,
+            b"writer: the text of a card is read from standard input, and the card is written to standard output; the only argument is 'list', for many texts with their lengths before them\n",
         );
     }
 }

@@ -2,14 +2,12 @@
 use crate::names::{Names, REASONS};
 use card::write::WriteRefusal;
 use joined::machine::Airframe;
-use std::fmt;
+use std::fmt::{self, InlineText};
+use streams::Decimal;
 use thiserror::Error;
 
 const NUMBER_FORM: &str =
-    "a number is a decimal such as 0.5 or 1e-3, 'nan', 'inf', '-inf', or 'x' and the 8 hexadecimal digits of its bits";
-
-const SETTINGS_FORM: &str =
-    "in the order of docs/SETTINGS.md, or NAME=NUMBER for each that is not the default";
+    "; a number is a decimal such as 0.5 or 1e-3, 'nan', 'inf', '-inf', or 'x' and the 8 hexadecimal digits of its bits";
 
 // A word of the text, shown in quotes: a byte that is not printable as '?', and of a long word the first 40 bytes.
 #[derive(Clone, Copy, Debug)]
@@ -22,7 +20,23 @@ impl fmt::Display for Word<'_> {
             let shown = matches!(b, b' '..=b'~');
             f.write_char(if shown { char::from(*b) } else { '?' })?;
         }
-        f.write_str(if self.0.len() > 40 { "..'" } else { "'" })
+        if self.0.len() > 40 {
+            f.write_str("..")?;
+        }
+        f.write_str("'")
+    }
+}
+
+// A name of docs/SETTINGS.md or of a line, shown a byte at a time, as a word is.
+#[derive(Clone, Copy, Debug)]
+struct Name(&'static str);
+
+impl fmt::Display for Name {
+    fn fmt<W: fmt::Write>(&self, f: &mut fmt::Formatter<W>) -> fmt::Result {
+        for c in self.0.chars() {
+            f.write_char(c)?;
+        }
+        Ok(())
     }
 }
 
@@ -32,7 +46,7 @@ struct Listed(Names);
 
 impl fmt::Display for Listed {
     fn fmt<W: fmt::Write>(&self, f: &mut fmt::Formatter<W>) -> fmt::Result {
-        f.write_joined(self.0.parts().iter().map(|part| part.0), ", ")
+        f.write_joined(self.0.parts().iter().map(|part| Name(part.0)), ", ")
     }
 }
 
@@ -42,7 +56,19 @@ struct Reasons;
 
 impl fmt::Display for Reasons {
     fn fmt<W: fmt::Write>(&self, f: &mut fmt::Formatter<W>) -> fmt::Result {
-        f.write_joined(REASONS.iter().map(|reason| reason.0), ", ")
+        f.write_joined(REASONS.iter().map(|reason| Name(reason.0)), ", ")
+    }
+}
+
+// How many numbers an airframe's settings are, shown in one part.
+#[derive(Clone, Copy, Debug)]
+struct Takes(Names);
+
+impl fmt::Display for Takes {
+    fn fmt<W: fmt::Write>(&self, f: &mut fmt::Formatter<W>) -> fmt::Result {
+        let names = self.0;
+        let count = Decimal(names.parts().len() as u64);
+        f.write_str(InlineText::<40>::of(format_args!("{names} takes {count} numbers")).as_str())
     }
 }
 
@@ -77,9 +103,9 @@ pub(crate) enum Problem<'a> {
     Unknown(Names, Word<'a>),
     #[error("{0} stands twice; a line names each at most once")]
     Twice(Word<'a>),
-    #[error("{0} takes 1 number, with a decimal point and no comma")]
+    #[error("{0} takes {one} number, with a decimal point and no comma", one = Decimal(1))]
     OneValue(Word<'a>),
-    #[error("{0} takes {1} numbers, with commas and no space between them")]
+    #[error("{0} takes {n} numbers, with commas and no space between them", n = Decimal(*.1 as u64))]
     Values(Word<'a>, usize),
     #[error("a prime has a z: 'prime z=NUMBER'")]
     NoZ,
@@ -87,11 +113,11 @@ pub(crate) enum Problem<'a> {
     NoDt,
     #[error("a step has a dt and an attitude; attitude is missing")]
     NoAttitude,
-    #[error("{0} takes {count} numbers {form}; this line has {1}", count = .0.parts().len(), form = SETTINGS_FORM)]
+    #[error("{takes} in the order of docs/SETTINGS.md, or NAME=NUMBER for each that is not the default; this line has {n}", takes = Takes(*.0), n = Decimal(*.1 as u64))]
     Count(Names, usize),
-    #[error("a number is missing; it stands right after '=' or ',', without a space; {form}", form = NUMBER_FORM)]
+    #[error("a number is missing; it stands right after '=' or ',', without a space{form}", form = NUMBER_FORM)]
     NoWord,
-    #[error("{0} is no number; {form}", form = NUMBER_FORM)]
+    #[error("{0} is no number{form}", form = NUMBER_FORM)]
     NoNumber(Word<'a>),
     #[error("{0} is too long; written out without an exponent, a decimal has at most 9 digits and 9 places behind the point; or write 'x' and the 8 hexadecimal digits of its bits")]
     TooLong(Word<'a>),
@@ -117,7 +143,7 @@ pub(crate) struct Refusal {
 
 impl fmt::Display for Refusal {
     fn fmt<W: fmt::Write>(&self, f: &mut fmt::Formatter<W>) -> fmt::Result {
-        let number = self.why.number();
+        let number = Decimal(u64::from(self.why.number()));
         match self.why {
             WriteRefusal::Calls => write!(f, "refused {number}: more than 799 calls"),
             WriteRefusal::Room => {
@@ -127,8 +153,8 @@ impl fmt::Display for Refusal {
                 )
             }
             WriteRefusal::Header(why) => {
-                let field = why.field();
-                let name = Names::from(self.airframe).name_at(usize::from(field));
+                let name = Name(Names::from(self.airframe).name_at(usize::from(why.field())));
+                let field = Decimal(u64::from(why.field()));
                 write!(
                     f,
                     "refused {number} {field}: the header's setting {field}, {name}, is out of its range; docs/SETTINGS.md has the ranges"
@@ -148,8 +174,7 @@ pub(crate) enum Why<'a> {
 }
 
 // Why a text has no card, and the number of the line that it is about.
-#[derive(Clone, Copy, Debug, Error)]
-#[error("line {line}: {why}")]
+#[derive(Clone, Copy, Debug)]
 pub(crate) struct NoCard<'a> {
     pub line: usize,
     pub why: Why<'a>,

@@ -18,7 +18,7 @@ pub returns-in-Step : goal.returns-in-Step
 returns-in-Step c =
     let b = c.args.bytes.now in
     let h = told b (said_by b) (said b) c.kind_of.ensures (c.in_ok-kind_of.was ∙ ap Some c.in-Step.is) in
-    c.then_some-in-Step.ensures ∙ some_if _ _ ∙ simp (c.step_input_of.ensures, c.option_of-option.ensures) h
+    c.then_some-in-Step.ensures ∙ some_if _ _ ∙ simp (c.step_input_of.ensures.input, c.option_of-option.ensures) h
 
 pub returns-in-Cut : goal.returns-in-Cut
 returns-in-Cut c =

@@ -26,8 +26,8 @@ fn main(rt: HostRuntime) {
             return;
         };
         match kept.call(&record) {
-            Ok(line) => streams::print(&mut stdout, format_args!("{line}\n")),
-            Err(why) => streams::print(&mut stdout, format_args!("{why}\n")),
+            Ok(line) => streams::print_words(&mut stdout, format_args!("{line}\n")),
+            Err(why) => streams::print_words(&mut stdout, format_args!("{why}\n")),
         };
     }
 }

@@ -6,30 +6,31 @@
 use card::chain::check;
 use card::refusal::CardRefusal;
 use machines::InputRefusal;
+use std::fmt;
+use std::fmt::Display;
 use std::io::{Read, Write};
+use streams::Decimal;
 
-// Writes what a check found: how many records are to be walked, or the refusal's number, with the field after a 3.
-// This and `check_card` write word by word, by functions of `streams` whose contracts say the digits, and try each word whatever became of the one before: a `write!` ends at the first that fails.
-fn print_found<W: Write>(stdout: &mut W, found: Result<usize, CardRefusal>) {
-    match found {
-        Ok(count) => {
-            streams::write_all(stdout, b"walk ");
-            streams::print_decimal(stdout, count as u64);
-        }
-        Err(why) => {
-            streams::write_all(stdout, b"card ");
-            streams::print_decimal(stdout, u64::from(why.number()));
-            if let CardRefusal::Header(InputRefusal::Setting(field)) = why {
-                streams::write_all(stdout, b" ");
-                streams::print_decimal(stdout, u64::from(field));
+// What a check found, as its line says it: how many records are to be walked, or the refusal's number, with the field after a 3.
+#[derive(Clone, Copy)]
+struct Found(Result<usize, CardRefusal>);
+
+impl Display for Found {
+    fn fmt<W: fmt::Write>(&self, f: &mut fmt::Formatter<W>) -> fmt::Result {
+        match self.0 {
+            Ok(count) => write!(f, "walk {}", Decimal(count as u64)),
+            Err(CardRefusal::Header(why @ InputRefusal::Setting(field))) => {
+                let number = Decimal(u64::from(why.number()));
+                write!(f, "card {number} {}", Decimal(u64::from(field)))
             }
+            Err(why) => write!(f, "card {}", Decimal(u64::from(why.number()))),
         }
     }
 }
 
 // Checks a card with these marks, and writes the line: what was found, and each mark in two digits.
 fn check_card<W: Write>(stdout: &mut W, card: &[u8], marks: &mut [u8]) {
-    print_found(stdout, check(card, marks));
+    streams::print(stdout, Found(check(card, marks)));
     streams::write_all(stdout, b" marks=");
     for mark in marks {
         streams::print_hex(stdout, u64::from(*mark), 2);

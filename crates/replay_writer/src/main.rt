@@ -11,6 +11,7 @@ use joined::machine::Airframe;
 use joined::settings::Settings;
 use machines::InputRefusal;
 use std::io::{Read, Write};
+use streams::Decimal;
 
 // What stands before the calls of a list.
 #[derive(Clone, Copy)]
@@ -23,23 +24,21 @@ struct Head {
 }
 
 // Writes the line of an answer: how many bytes the card has, or the number of a refusal, and the field after a 3.
-// Word by word, by functions of `streams` whose contracts say the digits, and each word is tried whatever became of the one before: a `write!` ends at the first that fails.
 fn print_wrote<W: Write>(stdout: &mut W, wrote: Result<usize, WriteRefusal>) {
     match wrote {
         Ok(length) => {
-            streams::write_all(stdout, b"wrote ");
-            streams::print_decimal(stdout, length as u64);
+            streams::print(stdout, format_args!("wrote {}\n", Decimal(length as u64)));
+        }
+        Err(WriteRefusal::Header(why @ InputRefusal::Setting(field))) => {
+            let number = Decimal(u64::from(why.number()));
+            let field = Decimal(u64::from(field));
+            streams::print(stdout, format_args!("refused {number} {field}\n"));
         }
         Err(why) => {
-            streams::write_all(stdout, b"refused ");
-            streams::print_decimal(stdout, u64::from(why.number()));
-            if let WriteRefusal::Header(InputRefusal::Setting(field)) = why {
-                streams::write_all(stdout, b" ");
-                streams::print_decimal(stdout, u64::from(field));
-            }
+            let number = Decimal(u64::from(why.number()));
+            streams::print(stdout, format_args!("refused {number}\n"));
         }
     }
-    streams::write_all(stdout, b"\n");
 }
 
 // The airframe of a header's kind. `bench` and replay_entry choose so too: one function for all would need a contract and an edit of its own, and be longer than the three.

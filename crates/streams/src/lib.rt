@@ -140,11 +140,19 @@ impl Display for Decimal {
     }
 }
 
-// A writer as a `fmt::Write` that tries each part of a text, whatever became of the part before; and whether all parts so far were written.
+// Whether a part of a text stands between words.
+fn parts_words(part: &[u8]) -> bool {
+    matches!(part.first(), Some(b' ' | b'\n'))
+}
+
+// A writer as a `fmt::Write` that tries each part of a text, whatever became of the part before, or else each word; and whether all parts so far were written.
 #[derive(Drop)]
 struct Tried<'a, W> {
     inner: &'a mut W,
     all: bool,
+    by_word: bool,
+    // by word, whether a part of this word could not be written
+    broken: bool,
 }
 
 impl<W: Write> fmt::Write for Tried<'_, W> {
@@ -152,8 +160,16 @@ impl<W: Write> fmt::Write for Tried<'_, W> {
         × (IsTrue t.all → IsTrue s.all × Appends (W.contents s.inner.now) (W.contents t.inner.now) bs) };
 
     fn write_str(&mut self, s: &str) -> fmt::Result {
-        if !write_all(self.inner, s.as_bytes()) {
+        let part = s.as_bytes();
+        let between = parts_words(part);
+        if between {
+            self.broken = false;
+        }
+        if self.broken {
             self.all = false;
+        } else if !write_all(self.inner, part) {
+            self.all = false;
+            self.broken = self.by_word && !between;
         }
         Ok(())
     }
@@ -163,12 +179,28 @@ impl<W: Write> fmt::Write for Tried<'_, W> {
 pub fn print<W: Write, D: Display + Drop>(to: &mut W, shown: D) -> bool
     ensures { IsTrue result → IfSome (D.output shown) (Appends (W.contents to.old) (W.contents to.new)) }
 {
+    try_parts(to, shown, false)
+}
+
+// As `print`, but where a part of a word fails, what is left of that word is left out: a number's zeros in front and its digits are two parts.
+pub fn print_words<W: Write, D: Display + Drop>(to: &mut W, shown: D) -> bool
+    ensures { IsTrue result → IfSome (D.output shown) (Appends (W.contents to.old) (W.contents to.new)) }
+{
+    try_parts(to, shown, true)
+}
+
+// Tries the parts of what a value shows, or its words.
+fn try_parts<W: Write, D: Display + Drop>(to: &mut W, shown: D, by_word: bool) -> bool
+    ensures { IsTrue result → IfSome (D.output shown) (Appends (W.contents to.old) (W.contents to.new)) }
+{
     let mut f = Formatter::new(Tried {
         inner: to,
         all: true,
+        by_word,
+        broken: false,
     });
     let shows = f.write(shown).is_ok();
-    let Tried { inner, all } = f.into_inner();
+    let Tried { inner, all, .. } = f.into_inner();
     // No effect at run time: the proof reads what `to` holds from it.
     let _ = &*inner;
     shows && all

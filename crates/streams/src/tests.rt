@@ -37,17 +37,28 @@ impl Write for Full {
     }
 }
 
-// Fails at the second write, and counts the bytes of the others.
+// Fails at one write, and counts the bytes of the others.
 #[derive(Drop)]
-struct SecondFails {
+struct FailsAt {
+    at: usize,
     calls: usize,
     taken: usize,
 }
 
-impl Write for SecondFails {
+impl FailsAt {
+    fn new(at: usize) -> FailsAt {
+        FailsAt {
+            at,
+            calls: 0,
+            taken: 0,
+        }
+    }
+}
+
+impl Write for FailsAt {
     fn write(&mut self, buf: &[u8]) -> io::Result<usize> {
         self.calls = self.calls.saturating_add(1);
-        if self.calls == 2 {
+        if self.calls == self.at {
             return Err(io::Error::from(ErrorKind::BrokenPipe));
         }
         self.taken = self.taken.saturating_add(buf.len());
@@ -137,12 +148,42 @@ fn tries_each_part(rt: HostRuntime) -> Result<(), Fail> {
     let mut to = Vec::new(rt.alloc());
     assert!(rt; print(&mut to, format_args!("{first} {second}\n")));
     assert_eq!(rt; to.as_slice(), b"12 345\n".as_slice());
-    let mut failing = SecondFails { calls: 0, taken: 0 };
+    let mut failing = FailsAt::new(2);
     assert!(rt; !print(&mut failing, format_args!("{first} {second}\n")));
     assert_eq!(rt; failing.calls, 4);
     assert_eq!(rt; failing.taken, 6);
     assert!(rt; !print(&mut Full, format_args!("{first}")));
     Ok(())
+}
+
+#[test]
+fn tries_each_word(rt: HostRuntime) -> Result<(), Fail> {
+    let (first, second) = (12, 345);
+    let mut to = Vec::new(rt.alloc());
+    assert!(rt; print_words(&mut to, format_args!(" {first:04x} {second}\n")));
+    assert_eq!(rt; to.as_slice(), b" 000c 345\n".as_slice());
+    let mut parts = FailsAt::new(2);
+    assert!(rt; !print(&mut parts, format_args!(" {first:04x} {second}\n")));
+    assert_eq!(rt; parts.calls, 6);
+    assert_eq!(rt; parts.taken, 7);
+    let mut words = FailsAt::new(2);
+    assert!(rt; !print_words(&mut words, format_args!(" {first:04x} {second}\n")));
+    assert_eq!(rt; words.calls, 5);
+    assert_eq!(rt; words.taken, 6);
+    Ok(())
+}
+
+#[test]
+fn goes_on_after_a_space_and_a_last_word(rt: HostRuntime) {
+    let (first, second) = (12, 345);
+    let mut space = FailsAt::new(1);
+    assert!(rt; !print_words(&mut space, format_args!(" {first:04x} {second}\n")));
+    assert_eq!(rt; space.calls, 6);
+    assert_eq!(rt; space.taken, 9);
+    let mut last = FailsAt::new(5);
+    assert!(rt; !print_words(&mut last, format_args!(" {first:04x} {second}\n")));
+    assert_eq!(rt; last.calls, 6);
+    assert_eq!(rt; last.taken, 7);
 }
 
 #[test]

@@ -3,28 +3,26 @@
 use crate::problem::{NoCard, Refusal, Why};
 use crate::text::{TEXT_ROOM, write_text};
 use card::write::WriteRefusal;
+use std::fmt;
 use std::io::{Read, Write};
+use streams::Decimal;
 
-// Writes a space and a number.
-fn put_number<W: Write>(stdout: &mut W, n: usize) {
-    streams::write_all(stdout, b" ");
-    streams::print_decimal(stdout, n as u64);
-}
+// The answer for a text without a card, without the words that say why. The spaces are parts of their own, so that each word is written by itself.
+#[derive(Clone, Copy)]
+struct Answer<'a>(NoCard<'a>);
 
-// Writes the answer for a text without a card, without the words that say why.
-// Word by word, by functions of `streams` whose contracts say the digits, and each word is tried whatever became of the one before: a `write!` ends at the first that fails.
-fn put_no_card<W: Write>(stdout: &mut W, no_card: NoCard) {
-    streams::write_all(stdout, &[0; 4]);
-    streams::write_all(stdout, b"line");
-    put_number(stdout, no_card.line);
-    if let Why::Refused(Refusal { why, .. }) = no_card.why {
-        streams::write_all(stdout, b" refused");
-        put_number(stdout, usize::from(why.number()));
-        if let WriteRefusal::Header(_) = why {
-            put_number(stdout, usize::from(why.field()));
+impl fmt::Display for Answer<'_> {
+    fn fmt<W: fmt::Write>(&self, f: &mut fmt::Formatter<W>) -> fmt::Result {
+        write!(f, "line{}{}", ' ', Decimal(self.0.line as u64))?;
+        let Why::Refused(Refusal { why, .. }) = self.0.why else {
+            return Ok(());
+        };
+        write!(f, " refused{}{}", ' ', Decimal(u64::from(why.number())))?;
+        if let WriteRefusal::Header(why) = why {
+            write!(f, "{}{}", ' ', Decimal(u64::from(why.field())))?;
         }
+        Ok(())
     }
-    streams::write_all(stdout, b"\n");
 }
 
 // Writes a card with its length before it.
@@ -39,7 +37,10 @@ fn put_text<W: Write>(stdout: &mut W, text: &[u8]) {
     let mut out = [0u8; 64_000];
     match write_text(text, &mut out) {
         Ok(card) => put_card(stdout, card),
-        Err(no_card) => put_no_card(stdout, no_card),
+        Err(no_card) => {
+            streams::write_all(stdout, &[0; 4]);
+            streams::print(stdout, format_args!("{}\n", Answer(no_card)));
+        }
     }
 }
 

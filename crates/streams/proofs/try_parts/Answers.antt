@@ -1,6 +1,6 @@
 use Rattle.std.proofs.Common.{rules}
 use Rattle.streams.proofs.Laws.Tried.{of_writes, weaker}
-use Rattle.streams.proofs.print.Goals as goal
+use Rattle.streams.proofs.try_parts.Goals as goal
 
 -- what each part that was written adds, put together over the parts of the text
 pub returns-then-shows : goal.returns-then-shows
